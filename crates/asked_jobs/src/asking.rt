@@ -27,7 +27,8 @@ pub fn usual() -> Defaults
     }
 }
 
-/// What the words ask for, or `None` exactly where they match no command or a value is out of its range. An error is want of memory.
+/// What the words ask for, or `None` exactly where they match no command or a value is out of its range. An error means that
+/// memory ran out.
 pub fn asked_job(alloc: Global, words: &Words) -> Result<Option<Job>, OutOfMemory>
     ensures asked { IfOk result (λ asked. asked ≡ job_of usual false words.now) }
     ensures within { IfOk result (λ asked. IfSome asked IsWithin) }

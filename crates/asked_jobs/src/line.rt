@@ -60,8 +60,8 @@ fn client_in(job: Option<Job>) -> Option<ClientJob>
 }
 
 /// The client command that a line asks for, without its line feed, or `None` exactly where it asks for none: its words aren't parted by
-/// single spaces, or match no client command, or a value is out of its range. What it leaves out is as in the cluster. An error is want
-/// of memory.
+/// single spaces, or match no client command, or a value is out of its range. What it leaves out is as in the cluster. An error means
+/// that memory ran out.
 pub fn asked_line(
     alloc: Global,
     cluster: &Defaults,

@@ -2,7 +2,7 @@
 //! these test before they serve an ask.
 //!
 //! `hmac` is HMAC-SHA-256. `seal` puts in the tag of all fields before it, and `check` says of a use whether it is
-//! denied, and by the first of four tests that it fails. `is_stop` tells the message that ends a served node.
+//! denied, and by the first of four tests that it fails. `is_stop` recognizes the message that ends a served node.
 #![tactic(auto)]
 
 ghost use Rattle.std.specs.Prelude.{◌≡◌, ◌≤◌, ℕ, List, true, length, map, bit_xor, Ok, OnOk, IfOk, OnErr};
@@ -90,7 +90,7 @@ fn tag_of(alloc: Global, key: &[u8], capability: &Capability) -> Result<[u8; 32]
 }
 
 /// Whether two tags are one. It looks at each byte, also past the first that differs, so that the time it takes doesn't
-/// tell how many bytes were right. No proof speaks of time.
+/// reveal how many bytes were right. No proof speaks of time.
 fn same_tag(one: &[u8; 32], other: &[u8; 32]) -> bool
     ensures { result ≡ bytes_eq one.now other.now }
 {

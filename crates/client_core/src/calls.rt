@@ -15,7 +15,7 @@ use xt_base::{Copies, NodeId, OutOfMemory, Seq, SizeMark};
 use xt_messages::{Call, Event, Mark, Marks, Msgs, Outcome, Payload, Reply};
 use xt_protocol::{Turned, one, sends};
 
-/// The mark of an Ok that comes; any other event tells of no byte.
+/// The mark of an Ok that comes; with any other event, epoch 0 and size 0.
 pub fn mark_told(ev: &Event) -> SizeMark
     ensures { result ≡ rows.mark_told ev.now }
 {

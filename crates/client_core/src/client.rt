@@ -253,7 +253,7 @@ impl Client {
         self.replicas.raise(file, epoch)
     }
 
-    /// Its truncate epoch for a file: the greatest one that it was told, and 0 before.
+    /// Its truncate epoch for a file: the greatest one that it has heard of, and 0 before.
     pub fn epoch(&self, file: &FileId) -> u64
         ensures { result ≡ (known_in self.now.state.replicas.files file.now).epoch }
     {
@@ -397,7 +397,7 @@ impl Client {
         Ok(turned)
     }
 
-    /// The call on a replicated file has ended so, and an Ok told this mark.
+    /// The call on a replicated file has ended so, and an Ok reported this mark.
     fn end_replicated(&mut self, told: SizeMark, outcome: Outcome)
         requires { IsSome self.old.state.made }
         ensures { self.new ≡

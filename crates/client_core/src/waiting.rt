@@ -40,7 +40,7 @@ fn turn_away(
     Ok(waits_on())
 }
 
-/// An operation on a striped file is refused by a member that was asked, which may have told something; others do nothing.
+/// An operation on a striped file is refused by a member that was asked, whose refusal may report something; others do nothing.
 fn refuse(
     learnt: Learnt,
     capability: &Capability,
@@ -185,7 +185,7 @@ fn hear_reply(
     take_reply(alloc, held, capability, op, target, from, reply)
 }
 
-/// What an answer of the metadata server tells of a file.
+/// What an answer of the metadata server says of a file.
 fn granted(answer: &MetaAnswer) -> Learnt
     ensures { result ≡ rows.granted answer.now }
 {

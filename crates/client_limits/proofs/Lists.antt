@@ -1,4 +1,4 @@
--- lists of which each element is so
+-- lists each of whose elements has a property
 use Rattle.std.proofs.Common.{List, [], ◌∷◌, Bool}
 use Rattle.std.specs.Prelude.{filter}
 use Rattle.std.specs.List.{AllByRecursion}

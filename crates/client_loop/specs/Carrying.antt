@@ -24,7 +24,8 @@ use Rattle.client_loop.specs.declared.course.Handed.TheVariants as handed
 use Rattle.client_loop.specs.Listening.{DriverView, Traffic, Look, reading_of, datagrams_of, looks, told_by, MayLook, GaveIn, EndsLook}
 use Rattle.client_loop.specs.Mailing.{mailed}
 
--- What a link and a clock tell: the datagrams that are to come, those that were sent, how many were lost, and the readings to come.
+-- What is known of a link and a clock: the datagrams that are to come, those that were sent, how many were lost, and the readings to
+-- come.
 pub record Around : Type 0 where
   pub to_come : Option (List Datagram)
   pub sent : Option (List Datagram)

@@ -62,7 +62,7 @@ abbrev pub MayLook : ℕ → Listener → Look → Type 0
 MayLook until l (late reading) = until ≤ reading
 MayLook until l (came reading datagram) = (reading < until) × (l.spent < l.turns)
 
--- what a link gave: a datagram, or nothing, where there was none to give as far as that is told
+-- what a link gave: a datagram, or nothing, where there was none to give as far as that is known
 abbrev pub Gave : Option (List Datagram) → Option (List Datagram) → Option Datagram → Type 0
 Gave before after None = (after ≡ before) × IfSome before (λ datagrams. datagrams ≡ [])
 Gave before after (Some datagram) = Takes before after (datagram ∷ [])
@@ -123,7 +123,7 @@ pub record CannotLook (until : ℕ) (l : Listener) (before after : Option (List 
   pub silent : undone.sent ≡ []
   pub ends : EndsLook until l undone why
 
--- the counts of faults of the link and the clock rose exactly where the error tells of them
+-- the counts of faults of the link and the clock rose exactly where the error reports it
 abbrev pub HasDriveCause : ℕ → ℕ → ℕ → ℕ → DriveErr → Type 0
 HasDriveCause link_before link_after clock_before clock_after (error.Link count) =
     Rose link_before link_after × (count ≡ link_after) × (clock_after ≡ clock_before)

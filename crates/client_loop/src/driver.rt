@@ -225,7 +225,7 @@ impl Driver {
         unreachable!()
     }
 
-    /// Looks for a message until this time, and tells whether the clock reads that or more. A message does nothing.
+    /// Looks for a message until this time, and reports whether the clock reads that or more. A message does nothing.
     fn hear<L: Link, C: Clock>(
         &mut self,
         until: u64,

@@ -12,7 +12,7 @@ use std::alloc::Global;
 use xt_base::OutOfMemory;
 use xt_messages::Msg;
 
-/// Sends a message, if its receiver has an address, and tells whether each of its parts was taken.
+/// Sends a message, if its receiver has an address, and reports whether each of its parts was taken.
 pub fn mail<L: Link>(
     alloc: Global,
     sender: &mut Sender,

@@ -1,7 +1,7 @@
 //! The members that a client's call has asked: which of them answered what, which one is asked next, and what the end of a
-//! call tells of them.
+//! call reports of them.
 //!
-//! Each function equals its definition in `client_rows`: no member is asked twice, and an end tells of the members in the
+//! Each function equals its definition in `client_rows`: no member is asked twice, and an end reports the members in the
 //! order of the file's list.
 #![tactic(auto)]
 

@@ -60,7 +60,7 @@ fn outcome_in(tried: &[Tried], node: NodeId) -> Option<Retry>
     None
 }
 
-/// What came of a member, as an end of the call tells it.
+/// What came of a member, as an end of the call reports it.
 fn answer_of(tried: &[Tried], node: NodeId) -> Option<Answered>
     ensures { result ≡ rows.answered_by node (rows.outcome_in tried.now node) }
 {

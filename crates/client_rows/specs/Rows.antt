@@ -116,7 +116,7 @@ holds_learnt held (learnt.Mark file size) = joins held file size
 holds_learnt held (learnt.Capability capability size) = holds held capability size
 holds_learnt held _ = held
 
--- what is known of replicated files then: the truncate epoch of the file is at least the told one
+-- what is known of replicated files then: the truncate epoch of the file is at least the reported one
 abbrev pub knows_learnt : ClientState → Learnt → ClientState
 knows_learnt replicas (learnt.Epoch file epoch) = knows replicas file (raised epoch)
 knows_learnt replicas _ = replicas
@@ -141,7 +141,7 @@ waits site client made target deadline happens =
 
 -- Replicated files.
 
--- the mark of an Ok that comes; any other event tells of no byte
+-- the mark of an Ok that comes; with any other event, epoch 0 and size 0
 abbrev pub mark_of : Reply → SizeMark
 mark_of (reply.Ok count size bytes) = size
 mark_of _ = record { epoch = 0; size = 0 }
@@ -242,7 +242,7 @@ repeated node times client reading (Some made) =
     has_started times client reading made.number made.request
     (starts_again node times client.replicas reading made.number made.request)
 
--- The last call is made again, and no mark tells of it.
+-- The last call is made again, and no mark reports it.
 unfoldable pub called_again : NodeId → TimeSettings → WholeClient → ℕ → Step WholeClient
 called_again node times client reading = repeated node times client reading client.made
 

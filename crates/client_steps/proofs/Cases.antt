@@ -9,12 +9,12 @@ pub either : {A : Type 0} (P : A → Type 0) (here : Bool) (x y : A) → P x →
 either P true x y first second = first
 either P false x y first second = second
 
--- whichever of the two it is, where each is so in its case
+-- a property of the one that is taken, where each has it in its case
 pub when : {A : Type 0} (P : A → Type 0) (here : Bool) (x y : A) → (here ≡ true → P x) → (here ≡ false → P y) → P (if here then x else y)
 when P true x y taken other = taken refl
 when P false x y taken other = other refl
 
--- a test that begins with two numbers tells that they are one
+-- a test that begins by comparing two numbers shows that they are equal
 pub same_number : (a b : ℕ) (more : Bool) → (a == b && more) ≡ true → a ≡ b
 same_number a b more passed = grind (arith, nat_tests)
 

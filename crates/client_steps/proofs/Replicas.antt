@@ -37,7 +37,7 @@ abbrev Told : Event → Payload → Type 0
 Told happens (payload.Reply number file content) = HeardIs happens number content
 Told happens _ = Unit {0}
 
--- what a step of the calls on replicated files owes
+-- what must hold of a step of the calls on replicated files
 pub record RowIs (Is : ℕ → Request → Type 0) (node : NodeId) (happens : Event) (next : ℕ) (step : Step ClientState) : Type 0 where
   pub running : RunningIs Is step.state.running
   pub number : step.state.next ≡ next

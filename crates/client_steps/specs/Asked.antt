@@ -1,4 +1,4 @@
--- What holds of a client's calls, of what it sends and of what it tells, for any property of what is asked under a number.
+-- What holds of a client's calls, of what it sends and of what it reports, for any property of what is asked under a number.
 use Rattle.std.specs.Prelude.{ℕ, ◌≡◌, ◌+◌, Option, Some, None, List, [], ◌∷◌}
 use Rattle.std.specs.List.{AllByRecursion}
 use Rattle.xt_base.specs.declared.ids.NodeId.{NodeId}
@@ -88,7 +88,7 @@ module _ (Is : ℕ → Request → Type 0) where
     sends_none : Sends node []
     sends_one : (to : NodeId) (number : ℕ) (asked : Request) → Is number asked → Sends node (message node to (payload_of number asked) ∷ [])
 
-  -- it tells nothing on an event, or that a call has ended
+  -- it reports nothing on an event, or that a call has ended
   pub data Tells (happens : Event) : List Mark → Type 0 where
     tells_none : Tells happens []
     tells_end : (number : ℕ) (asked : Request) (how : Outcome) → Is number asked → EndsSo happens number asked how → Tells happens (mark.Done number how ∷ [])
@@ -117,7 +117,7 @@ module _ (Is : ℕ → Request → Type 0) where
     call_passes : step ≡ passes c reading → CallStepIs node c reading k step
     call_begins : (asked : Request) → BeginsCall node c k asked step → CallStepIs node c reading k step
 
-  -- the last call is made again: no mark tells of it
+  -- the last call is made again: no mark reports it
   pub record AgainStepIs (node : NodeId) (c : WholeClient) (step : Step WholeClient) : Type 0 where
     pub client : ClientIs step.state
     pub number : step.state.replicas.next ≡ c.replicas.next

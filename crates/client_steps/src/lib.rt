@@ -1,4 +1,5 @@
-//! What a client sends, keeps and tells, row by row of all its calls: each step on an event, each call and each call that is made again.
+//! What a client sends, keeps and reports, row by row of all its calls: each step on an event, each call and each call that is made
+//! again.
 //!
 //! The walk over the rows of a client is done once, for any property of what is asked under a number: whatever is asked was asked by a
 //! call of the client under that number, so who knows it of each call as it begins knows it of all messages. The lemmas say so of any

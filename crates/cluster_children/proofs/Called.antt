@@ -183,7 +183,7 @@ stops_next before between after faults count later children child (Ok done) so_f
 stops_next before between after faults count later children child (Err failed) so_far went still counts =
     stops_more before between after faults count later children child false so_far (subst (λ o. Puts between o []) (sym still) (puts_none between)) counts
 
--- what is so is so of an error
+-- what holds anyway holds of an error
 pub so_of_error : {A E : Type 0} (outcome : Result A E) (P : Type 0) → P → OnErr outcome P
 so_of_error (Ok done) P p = tt
 so_of_error (Err failed) P p = p

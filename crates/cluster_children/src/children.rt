@@ -67,8 +67,8 @@ impl Children {
         Ok(())
     }
 
-    /// Starts the nodes of a cluster: the DIR, the MRC and then the OSDs from number 1 on. An error tells that the spawner failed, or that
-    /// memory ran out, at a node; those before it were started.
+    /// Starts the nodes of a cluster: the DIR, the MRC and then the OSDs from number 1 on. An error reports that the spawner failed, or
+    /// that memory ran out, at a node; those before it were started.
     pub fn start_all<P: Spawner>(
         &mut self,
         alloc: Global,
@@ -93,7 +93,7 @@ impl Children {
         Ok(())
     }
 
-    /// Waits for the first child, and tells whether there is one.
+    /// Waits for the first child, and reports whether there is one.
     fn wait<P: Spawner>(&mut self, spawner: &mut P) -> Result<bool, Status>
         ensures waited { IfOk result (HasWaited self.old self.new (P.calls spawner.old)
             (P.calls spawner.new)) }
@@ -115,7 +115,7 @@ impl Children {
         Ok(true)
     }
 
-    /// Waits for the children, in the order in which they were started. An error tells that the spawner failed over the first of those
+    /// Waits for the children, in the order in which they were started. An error reports that the spawner failed over the first of those
     /// that are left.
     #[tactic(auto, using(crate::proofs::Called::waits_next))]
     pub fn wait_all<P: Spawner>(&mut self, spawner: &mut P) -> Result<(), Status>

@@ -42,7 +42,7 @@ module _ (job : ClusterJob) where
   ends_at first phase start s last said comes ends =
       record { last = last; goes = record { phase = phase; s = s; comes = comes; ends = ends }; around = refl; left = refl }
 
-  -- why is told then
+  -- the reason is reported then
   pub ends_told : (first phase : Phase) (start s last : ClusterState) (held : Option (List ℕ)) (sink : ℕ) (why said : Status) → Comes job first start phase s
       → EndsUntold job phase s last why → Closes last.situation.held held last.situation.sink sink why said
       → EndsFrom job first start (moment_of (record last { situation = record last.situation { held = held; sink = sink } })) last.children said

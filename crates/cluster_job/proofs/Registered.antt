@@ -74,7 +74,7 @@ module _ (session : CommandSession) (given sent : Option (List Datagram)) (losse
       subst (λ n. ReadsOnce before_reading (after_reading unread held n sink) reading) (sym same)
       (record { reads = record { reads = reads; only = refl }; only = refl })
 
-  -- it wasn't, which is told
+  -- it wasn't, which is reported
   pub closes_unread : (unread later : Option (List ℕ)) (now risen count : ℕ) (why said : Status) → why ≡ status.ClockFault count → unread ≡ to_read
       → HasWhy (record { link = link; clock = clock; source = source }) (record { link = link; clock = now; source = source }) why
       → Closes held later sink risen why said → OnlyCloses (status.ClockFault count) before_reading (after_reading unread later now risen) said

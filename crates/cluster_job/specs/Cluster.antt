@@ -43,7 +43,7 @@ moment_of s = record {
   child = s.child;
 }
 
--- There is no end of the link: why is told, and nothing else is done.
+-- There is no end of the link: the reason is reported, and nothing else is done.
 pub record EndsUnopened (before after : Moment) (said : Status) : Type 0 where
   pub why : Status
   pub cannot : CannotOpen before.around after.around before.counts after.counts why

@@ -1,4 +1,4 @@
--- how the nodes of a cluster are told to end
+-- how the nodes of a cluster are ordered to end
 use Rattle.std.specs.Prelude.{ℕ, ◌≡◌, List, [], ◌∷◌, ◌++◌, map}
 use Rattle.xt_base.specs.declared.ids.NodeId.{NodeId}
 use Rattle.xt_messages.specs.declared.message.Msg.{Msg}

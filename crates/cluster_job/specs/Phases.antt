@@ -168,7 +168,7 @@ pub record EndsWaiting (s later : ClusterState) (why : Status) : Type 0 where
   pub cause : EndsWait s.child later.child why
   pub only : later ≡ record s { calls = later.calls; child = later.child; children = later.children }
 
--- What ends a cluster in a phase, before that is told.
+-- What ends a cluster in a phase, before that is reported.
 abbrev pub EndsUntold : ClusterJob → Phase → ClusterState → ClusterState → Status → Type 0
 EndsUntold job starting s later why = EndsStarting job s later why
 EndsUntold job rising s later why = EndsHearing (rises_at job s.started) s.situation later.situation why × OnlySituation s later
@@ -183,13 +183,13 @@ pub record OnlyTells (why : Status) (s later : ClusterState) (said : Status) : T
   pub closes : Closes s.situation.held later.situation.held s.situation.sink later.situation.sink why said
   pub only : later ≡ record s { situation = record s.situation { held = later.situation.held; sink = later.situation.sink } }
 
--- What ends a cluster in a phase by a command or a line, which has told it.
+-- What ends a cluster in a phase by a command or a line, which has reported it.
 abbrev pub EndsTold : ClusterJob → Phase → ClusterState → ClusterState → Status → Type 0
 EndsTold job registering s later said = CannotRegister job s.situation later.situation said × OnlySituation s later
 EndsTold job commanding s later said = AreLines (base_of job) s.situation later.situation said × (said ≢ status.Done) × OnlySituation s later
 EndsTold job _ s later said = ⊥
 
--- How a cluster ends in a phase: past the last one it is done; else why it ends is told, by a command or a line, or after it.
+-- How a cluster ends in a phase: past the last one it is done; else the reason is reported, by a command or a line, or after it.
 pub data EndsIn (job : ClusterJob) (phase : Phase) (s : ClusterState) : ClusterState → Status → Type 0 where
   done : phase ≡ over → EndsIn job phase s s status.Done
   untold : (last later : ClusterState) (why said : Status) → EndsUntold job phase s last why → OnlyTells why last later said

@@ -35,8 +35,8 @@ fn settles_at(job: &ClusterJob, started: u64, registered: u64) -> u64
     (started + lease + 2 * drift).max(registered + lease / 8 + drift)
 }
 
-/// Starts the children and hears what comes until they are up, and tells what the clock read when the last one was started. The last line
-/// of an error was put.
+/// Starts the children and hears what comes until they are up, and returns what the clock read when the last one was started. The last
+/// line of an error was put.
 fn set_up<K: Sink, L: Link, C: Clock, P: Spawner>(
     alloc: Global,
     job: &ClusterJob,
@@ -281,7 +281,7 @@ fn settle<K: Sink, L: Link, C: Clock>(
     }
 }
 
-/// Runs the lines, tells each node to end, and waits for the children. The last line of the status was put, where it has one.
+/// Runs the lines, orders each node to end, and waits for the children. The last line of the status was put, where it has one.
 fn carry_on<S: Source, K: Sink, L: Link, C: Clock, P: Spawner>(
     alloc: Global,
     job: &ClusterJob,

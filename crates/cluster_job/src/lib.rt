@@ -2,7 +2,8 @@
 //!
 //! It goes from phase to phase. The children are started, and time passes until their clocks are theirs; they are registered, and
 //! listed; time passes until the OSDs aren't silent and the metadata server knows them; the lines of the source are carried out as
-//! client commands; each node is told to end, and is waited for. Whatever ends it, each child that isn't waited for is stopped once.
+//! client commands; each node is ordered to end, and is waited for. Whatever ends it, each child that isn't waited for is stopped
+//! once.
 #![tactic(auto)]
 
 mod cluster;

@@ -113,7 +113,7 @@ pub fn open<L: Link, C: Clock>(
     }
 }
 
-/// Starts the children, and tells what the clock reads after the last one.
+/// Starts the children, and returns what the clock reads after the last one.
 pub fn start<C: Clock, P: Spawner>(
     alloc: Global,
     job: &ClusterJob,

@@ -45,7 +45,7 @@ fn farewells(alloc: Global, job: &ClusterJob) -> Result<Msgs, OutOfMemory>
     Ok(msgs)
 }
 
-/// Tells each node to end.
+/// Orders each node to end.
 pub fn part<L: Link>(
     alloc: Global,
     job: &ClusterJob,

@@ -145,8 +145,8 @@ fn register<K: Sink, L: Link, C: Clock>(
     unless_done(run_line(alloc, &line, session, out, link, clock))
 }
 
-/// Registers the MRC, and then the OSDs from number 1 on, and tells what the clock reads after the last one. The last line of an error
-/// was put.
+/// Registers the MRC, and then the OSDs from number 1 on, and returns what the clock reads after the last one. The last line of an
+/// error was put.
 pub fn register_all<K: Sink, L: Link, C: Clock>(
     alloc: Global,
     job: &ClusterJob,

@@ -52,7 +52,7 @@ pub step_of : (cluster : Defaults) (count : ℕ) (s later : Situation) (ended : 
 step_of cluster count s later None few runs = runs
 step_of cluster count s later (Some ended) few runs = cut later ended few runs
 
--- the same, where the source's count was read anew
+-- the same, where the source's count was read again
 abbrev recounted : Situation → ℕ → Situation
 recounted s n = record s { counts = record s.counts { source = n } }
 

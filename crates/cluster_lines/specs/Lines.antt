@@ -69,7 +69,7 @@ pub record IsRun (cluster : Defaults) (s later : Situation) (ended : Status) : T
   pub sound : later.counts.source ≡ s.counts.source
   pub answered : IsAnswered (asked_by cluster kind text) s later ended
 
--- The status of a line that ends the cluster: the link, the sink or the clock failed, or the turns or memory are spent.
+-- The status of a line that ends the cluster: the link, the sink or the clock failed, or the turns are spent, or memory ran out.
 abbrev pub ends_cluster : Status → Bool
 ends_cluster (status.LinkFault count) = true
 ends_cluster (status.SinkFault count) = true

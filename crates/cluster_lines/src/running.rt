@@ -68,7 +68,7 @@ fn asked_by(
     }
 }
 
-/// Runs the command that is asked for, or tells usage where none is.
+/// Runs the command that is asked for, or reports how to use the program where none is.
 fn answer<K: Sink, L: Link, C: Clock>(
     alloc: Global,
     asked: Option<ClientJob>,

@@ -35,7 +35,7 @@ role_words node.Dir = codes "dir" ∷ []
 role_words node.Mrc = codes "mrc" ∷ []
 role_words (node.Osd number) = codes "osd" ∷ option_words (codes "--id") (decimal number)
 
--- each but the DIR is told where that is
+-- each but the DIR gets the DIR's address
 abbrev pub directory_words : ℕ → ClusterNode → List (List ℕ)
 directory_words first node.Dir = []
 directory_words first node.Mrc = option_words (codes "--dir") (local first)

@@ -8,7 +8,7 @@ use store_compact::{compact, heads_name_what_must_stay, rewritten_records_may_be
 use xt_base::{CallList, Octets};
 use xt_journal::Journal;
 
-/// What is told where a test stops that can't go on.
+/// The message where a test stops that can't go on.
 const OTHERWISE: &str = "a call answers otherwise";
 
 /// More bytes than any journal here has.
@@ -66,7 +66,7 @@ fn compacted<D: Disk>(alloc: Global, disk: D) -> Option<Ended<D>> {
     }
 }
 
-/// How many records stand on a disk, where each is a start and the last one is this; 0 where other records do, or none.
+/// How many records are on a disk, where each is a start and the last one is this; 0 where there are other records, or none.
 fn starts<D: Disk>(alloc: Global, disk: D, last: u64) -> usize {
     let Ok((journal, placed)) = Journal::load(alloc, disk, LIMIT) else {
         return 0;
@@ -81,7 +81,7 @@ fn starts<D: Disk>(alloc: Global, disk: D, last: u64) -> usize {
     }
 }
 
-/// How many starts stand in these bytes, of which the last one is this.
+/// How many starts are in these bytes, of which the last one is this.
 fn starts_in(rt: &impl Abort, alloc: Global, bytes: &[u8], last: u8) -> usize {
     starts(alloc, disk(rt, alloc, bytes, &[], None), u64::from(last))
 }

@@ -88,7 +88,7 @@ struct Case {
 }
 
 /// An OSD and a metadata server ask the directory service at their one Wake. Then an OSD answers a Gather with its head, a metadata
-/// server tells that there is no such path, and a directory service that there is no such row.
+/// server answers that there is no such path, and a directory service that there is no such row.
 static CASES: [Case; 3] = [
     Case {
         node: OSD,

@@ -13,7 +13,8 @@ const TWO: &str = "
     58544653 4a524e4c 00000001 a5 00000009 01 0000000000000001
     a5 00000009 01 0000000000000002 00";
 
-/// A node makes a journal of at most 13 bytes anew, and keeps its first start there. It leaves one that is damaged as it is.
+/// A node replaces a journal of at most 13 bytes by a new one, and keeps its first start there. It leaves one that is damaged as
+/// it is.
 #[test]
 fn an_osd_has_a_cut_disk(rt: HostRuntime) {
     let one = hex(rt.alloc(), ONE).expect(&rt, OTHERWISE);
@@ -39,7 +40,7 @@ fn an_osd_has_a_cut_disk(rt: HostRuntime) {
     }
 }
 
-/// Disks that a node refuses, and what it tells.
+/// Disks that a node refuses, and what it reports.
 static REFUSED: [(&str, &str, u8); 6] = [
     (
         "58544653 4a524e4c 00000001 a5 00000000 01 0000000000000001 00",

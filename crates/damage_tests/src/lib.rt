@@ -21,6 +21,6 @@ mod runs;
 #[cfg(test)]
 mod schedules;
 
-/// What is told where a test stops that can't go on.
+/// The message where a test stops that can't go on.
 #[cfg(test)]
 const OTHERWISE: &str = "a call answers otherwise";

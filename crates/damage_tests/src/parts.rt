@@ -164,7 +164,7 @@ fn take_all(rt: &impl Abort, alloc: Global, joiner: &mut Joiner, steps: &[Step])
 /// The greatest message has eight whole parts, and isn't refused.
 static GREATEST: [Step; 1] = [(1, 7, 8, 262_144, 32_768, Taken::Nothing)];
 
-/// A half joined message keeps its length, and takes each part once. After it was given, its parts begin it anew.
+/// A half joined message keeps its length, and takes each part once. After it was given, its parts begin it again.
 static REPEATED: [Step; 12] = [
     (1, 1, 2, 32_769, 1, Taken::Nothing),
     (1, 1, 2, 32_770, 2, Taken::BadPart),
@@ -173,7 +173,7 @@ static REPEATED: [Step; 12] = [
     // another message's parts do nothing to it
     (2, 0, 2, 32_770, 32_768, Taken::Nothing),
     (1, 0, 2, 32_769, 32_768, Taken::Whole(32_769)),
-    // anew, and now with another length
+    // again, and now with another length
     (1, 1, 2, 32_770, 2, Taken::Nothing),
     (1, 1, 2, 32_770, 2, Taken::Nothing),
     (1, 0, 2, 32_769, 32_768, Taken::BadPart),
@@ -190,8 +190,8 @@ fn parts_are_repeated(rt: HostRuntime) {
     }
 }
 
-/// After 65 messages of which one part is missing, the first is forgotten, and the others aren't. To begin it anew drops the oldest only
-/// where 64 others are half joined.
+/// After 65 messages of which one part is missing, the first is forgotten, and the others aren't. To begin it again drops the oldest
+/// only where 64 others are half joined.
 static DROPPED: [Step; 5] = [
     (2, 0, 2, 32_769, 32_768, Taken::Whole(32_769)),
     (1, 0, 2, 32_769, 32_768, Taken::Nothing),

@@ -16,7 +16,7 @@ fn line(rt: &impl Abort, alloc: Global, count: usize) -> Vec<u8> {
     bytes
 }
 
-/// How many bytes a line has, and what is told of it.
+/// How many bytes a line has, and what is reported of it.
 static LINES: [(usize, &str, u8); 2] = [
     (300_000, "! malformed 1\n", 3),
     (300_001, "! limit line 300000\n", 15),

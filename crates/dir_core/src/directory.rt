@@ -111,7 +111,7 @@ fn is_recorded(request: &RegistryReq) -> bool
 }
 
 impl Dir {
-    /// The service that the records tell, under a key of 1 to 64 bytes.
+    /// The service that the records determine, under a key of 1 to 64 bytes.
     pub fn start(alloc: Global, key: &[u8], records: &[Record]) -> Result<Dir, OutOfMemory>
         requires some { 1 ≤ length key.now }
         requires short { length key.now ≤ 64 }
@@ -259,7 +259,7 @@ impl Dir {
         Ok(())
     }
 
-    /// Takes what a record tells.
+    /// Takes what a record says.
     fn take(&mut self, alloc: Global, rec: &Record) -> Result<(), OutOfMemory>
         ensures ok { OnOk result (self.new ≡
             record { secret = self.old.secret; state = after_record self.old.state rec.now }) }
@@ -276,7 +276,7 @@ impl Dir {
         }
     }
 
-    /// Does what a request does that is recorded; any other changes nothing, nor does want of memory.
+    /// Does what a request does that is recorded; any other changes nothing, nor does running out of memory.
     fn repeat(
         &mut self,
         alloc: Global,

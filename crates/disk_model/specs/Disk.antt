@@ -26,7 +26,7 @@ abbrev pub greatest_end : List Range → ℕ
 greatest_end [] = 0
 greatest_end (range ∷ ranges) = max range.end (greatest_end ranges)
 
--- as far as bytes may stand after a crash
+-- how far there may be bytes after a crash
 abbrev pub reach : Kept → ℕ
 reach kept = max (length kept.synced) (greatest_end kept.written)
 

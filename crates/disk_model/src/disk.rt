@@ -11,7 +11,7 @@ use xt_base::{Failed, OutOfMemory};
 /// succeeded a crash leaves what a read gives.
 ///
 /// Each call but `reserve` and `faults` is a device call. It answers `Failed` only where the disk's count of
-/// faults rose in it, or stands at the greatest 64-bit number.
+/// faults rose in it, or is at the greatest 64-bit number.
 pub trait Disk: Drop {
     /// Whether contracts know the contents. Those of a real file aren't known.
     ghost is_told: { Bool };
@@ -42,7 +42,7 @@ pub trait Disk: Drop {
         ensures { result ≡ fault_count self.now };
 
     /// Chooses the file that the later calls work on, and makes it where there is none. What was reserved is gone,
-    /// also where it fails.
+    /// even where it fails.
     fn attach(&mut self, name: &str) -> Result<(), Failed>
         ensures same { IsTrue is_told → kept self.new ≡ kept self.old }
         ensures reserved { reserved self.new ≡ 0 }
@@ -86,7 +86,7 @@ pub trait Disk: Drop {
             fault_count_after (is_err result) (fault_count self.old) };
 
     /// Writes a piece from a place on, over what is there and past the end. Until a sync, a crash may leave any
-    /// bytes in its range, also where the write fails. It takes no memory.
+    /// bytes in its range, even where the write fails. It takes no memory.
     fn write(&mut self, at: u64, piece: &[u8]) -> Result<(), Failed>
         requires inside { at + length piece.now ≤ reserved self.old }
         requires noted { length piece.now + 64 ≤ room self.old }

@@ -6,7 +6,7 @@ ghost use Rattle.disk_model.specs.Notes.{changes_of, pieces_length};
 use crate::note::Note;
 
 /// Lays what a read gives from place `at` on into a buffer: the first bytes, and over them each noted piece in its
-/// turn. Where none of them lies, a zero stands. It takes no memory.
+/// turn. Where none of them lies, there is a zero. It takes no memory.
 pub fn lay(buf: &mut [u8], at: usize, first: &[u8], notes: &[Note], pieces: &[u8])
     requires { pieces_length notes.now ≡ length pieces.now }
     ensures { (k : ℕ) → k < length buf.old →
@@ -28,7 +28,7 @@ pub fn lay(buf: &mut [u8], at: usize, first: &[u8], notes: &[Note], pieces: &[u8
     }
 }
 
-/// Lays a piece that stands from `place` on: as much of it as falls into a buffer that stands from `at` on.
+/// Lays a piece that begins at `place`: as much of it as falls into a buffer that begins at `at`.
 fn lay_piece(buf: &mut [u8], at: usize, place: usize, piece: &[u8])
     ensures laid { (k : ℕ) → k < length buf.old → place ≤ at + k →
         at + k < place + length piece.now →

@@ -18,6 +18,6 @@ pub use file::FileDisk;
 pub use memory::MemoryDisk;
 pub use plan::Stop;
 
-/// The gate of a journal's record that stands. Any other byte is a closed gate. So what an append that stopped at its
-/// gate leaves, is told by whether the stop's byte is this one.
+/// The gate of a journal's record that counts. Any other byte is a closed gate. So whether the stop's byte is this one
+/// decides what an append that stopped at its gate leaves.
 pub const OPEN_GATE: u8 = 0xa5;

@@ -12,7 +12,7 @@ pub struct Stop {
     pub fill: u8,
 }
 
-/// Which calls fail, and how many were made and failed. A count that stands at `u64::MAX` stays there.
+/// Which calls fail, and how many were made and failed. A count that is at `u64::MAX` stays there.
 #[derive(Drop)]
 pub struct Plan {
     pub failing: CallList,

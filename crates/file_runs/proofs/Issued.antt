@@ -27,11 +27,11 @@ ordered (x ∷ es) first k h = later (first.0 k h)
     later (inr is) = (is.0, is.1, inr is.2)
 
 module _ (stripe : ℕ) (ops : ℕ × ℕ → Op) (file : ℕ) where
-  -- an issue that is told is one of the entry
+  -- an issue that is reported is one of the entry
   abbrev Says : Entry → heads.Entry → Type 0
   Says e x = (n count : ℕ) (k : ℕ × ℕ) → TellsIssue n count k ≡ x → (node : NodeId) × (id : OpId) × (e ≡ entry.Issue node file count id) × (name_of id ≡ k)
 
-  -- an entry tells nothing, or one thing
+  -- an entry reports nothing, or one thing
   abbrev Adds : Entry → List heads.Entry → List heads.Entry → Type 0
   Adds e before after = (after ≡ before) ⊎ ((x : heads.Entry) × (after ≡ x ∷ before) × Says e x)
 
@@ -108,7 +108,7 @@ module _ (stripe : ℕ) (ops : ℕ × ℕ → Op) (file : ℕ) where
       at (inl p) = let s = a.2 n count k p in inr (s.1, s.3, ([], s.0, count, (rest, ap (λ (x : Entry). x ∷ rest) s.2)))
       at (inr there) = inl there
 
-  -- an issue that is told was told before, or is an entry
+  -- an issue that is reported was reported before, or is an entry
   sources : (entries : List Entry) (before after : List heads.Entry) (n count : ℕ) (k : ℕ × ℕ) → Tells stripe ops file entries before after → Has (TellsIssue n count k) after
       → Has (TellsIssue n count k) before ⊎ IsTold entries k
   sources [] before after n count k told h = inl (subst (Has (TellsIssue n count k)) told h)

@@ -25,7 +25,7 @@ changes (op.Read object at len) is = absurd is
 changes (op.Write object at bytes) is = refl
 changes (op.Truncate size) is = refl
 
--- what a claim past the end bears out stands in the order
+-- the write of a claim that agrees with the order, and isn't of place 0, is in the order
 stands : (order : List OpId) (claim : Claim) (n : ℕ) → claim.count ≡ n + 1 → Bears order claim → Has claim.id order
 stands order claim n past (long, inl none) = (let no : ⊥ = omega (arith, past, none) in absurd no)
 stands order claim n past (long, inr place) = got_has order (claim.count - 1) claim.id place

@@ -1,4 +1,4 @@
--- The order of writes of a trace is that of the entries which it tells.
+-- The order of writes of a trace is that of the entries which it reports.
 use Rattle.std.proofs.Common.{◌≡◌, ℕ, zero, suc, ◌+◌, ◌-◌, ◌≤◌, ◌==◌, ◌⊎◌, Bool, true, false, if◌then◌else◌, List, [], ◌∷◌, ◌++◌, length, map, Some, None, refl, sym, ap, ◌∙◌, subst, inl, inr, arith}
 use Rattle.std.specs.Prelude.{slice_get}
 use Rattle.std.specs.List.{fold}
@@ -126,7 +126,7 @@ module _ (stripe : ℕ) (ops : ℕ × ℕ → Op) (file : ℕ) where
   was_all [] before after told holds = subst Holds told holds
   was_all (e ∷ r) before after (mid, told, rest) holds = was e before mid told (was_all r mid after rest holds)
 
-  -- a claim tells the end of the order
+  -- a claim reports the end of the order
   abbrev Ends : List heads.Entry → Claim → Type 0
   Ends es claim = IsEnd (order_of [] es) claim.count (name_of claim.id)
 
@@ -157,7 +157,7 @@ module _ (stripe : ℕ) (ops : ℕ × ℕ → Op) (file : ℕ) where
   ends (entry.Answer node f id count bytes) before after claim told is holds = absurd (cc)
   ends (entry.Done client number outcome) before after claim told is holds = absurd (cc)
 
-  -- where an order ends so, it bears the claim out
+  -- an order that ends so agrees with the claim
   borne : (order : List OpId) (claim : Claim) → IsEnd (map name_of order) claim.count (name_of claim.id) → Bears order claim
   borne order claim (long, last) = (sym (length_mapped name_of order) ∙ long, at claim.count long last)
     where

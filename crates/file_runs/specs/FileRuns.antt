@@ -145,7 +145,7 @@ Comes stripe ops members w (message from content) =
     (Has (record { from = from.0; content = content }) w.sent ⊎ (shown from.0 content ≡ [])) × AskComes stripe ops members from content
 Comes stripe ops members w wake = Unit {0}
 
--- a status that a node told itself names versions of the head that it has
+-- a status that a node sent itself names versions of the head that it has
 abbrev pub OwnTells : ℕ → FileHead → NodeId → Payload → Type 0
 OwnTells n own from (payload.Status file epoch head) = from.0 ≡ n → (v : ObjectVersion) → Has v head.versions → Has v own.versions
 OwnTells n own from _ = Unit {0}
@@ -203,12 +203,12 @@ pub record BeginsFile (stripe : ℕ) (members : List ℕ) (start : Start) (w : F
   pub silent : w.sent ≡ []
   pub untold : w.tales ≡ []
 
--- these entries are what the tales tell, the newest of both first
+-- these entries are what the tales report, the newest of both first
 abbrev pub Tells : ℕ → (ℕ × ℕ → Op) → List Tale → List Entry → Type 0
 Tells stripe ops [] es = es ≡ []
 Tells stripe ops (t ∷ ts) es = (before : List Entry) × Tells stripe ops ts before × AreTold stripe ops t.node t.marks before es
 
--- All that was marked is told by entries that fit one order of writes.
+-- All that was marked is reported by entries that fit one order of writes.
 pub record IsOnOneOrder (stripe : ℕ) (ops : ℕ × ℕ → Op) (start : Start) (w : FileWorld) : Type 0 where
   pub entries : List Entry
   pub told : Tells stripe ops w.tales entries

@@ -18,7 +18,7 @@ abbrev pub trace_of : List Tale → List Entry
 trace_of [] = []
 trace_of (t ∷ ts) = trace_of ts ++ map (entry_of (let node : NodeId = record { 0 = t.node } in node)) t.marks
 
--- The trace has one order of writes, none stands there twice, and each answer shows it as it was.
+-- The trace has one order of writes, no write is in it twice, and each answer shows it as it was.
 pub record IsSafe (stripe : ℕ) (ops : ℕ × ℕ → Op) (file : ℕ) (entries : List Entry) : Type 0 where
   pub one_order : IsOneOrder file entries
   pub distinct : clauses.AreDistinct file entries

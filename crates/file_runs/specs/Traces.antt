@@ -1,4 +1,4 @@
--- When the trace of a world tells, of one file, the entries of a world of heads.
+-- When the trace of a world reports, of one file, the entries of a world of heads.
 use Rattle.std.specs.Prelude.{◌≡◌, ℕ, ◌-◌, ◌≤◌, Bool, true, false, ◌==◌, if◌then◌else◌, List, [], ◌∷◌, length, map, slice_get, Some}
 use Rattle.xt_base.specs.declared.ids.OpId.{OpId}
 use Rattle.xt_base.specs.declared.ids.NodeId.{NodeId}
@@ -15,13 +15,13 @@ use Rattle.replica_runs.specs.HeadWorld.{TellsActive, TellsIssue, TellsCommit}
 use Rattle.replica_runs.specs.HeadWorld as heads
 use Rattle.replica_runs.specs.Seen.{IsAnswer, name_of}
 
--- An answer on the file tells an entry that it shows.
+-- An answer on the file reports an entry that it shows.
 abbrev pub AnswerTells : ℕ → (ℕ × ℕ → Op) → ℕ → OpId → ℕ → List ℕ → List heads.Entry → List heads.Entry → Bool → Type 0
 AnswerTells stripe ops n id count bytes before after true =
     (x : heads.Entry) × IsAnswer stripe ops n id count bytes x × (after ≡ x ∷ before)
 AnswerTells stripe ops n id count bytes before after false = after ≡ before
 
--- What an entry of the trace tells of the file, where the entries of the file, the newest first, were these before and are
+-- What an entry of the trace reports of the file, where the entries of the file, the newest first, were these before and are
 -- those after it.
 abbrev pub TellsOne : ℕ → (ℕ × ℕ → Op) → ℕ → Entry → List heads.Entry → List heads.Entry → Type 0
 TellsOne stripe ops file (entry.Active node f count id) before after =
@@ -34,7 +34,7 @@ TellsOne stripe ops file (entry.Answer node f id count bytes) before after =
     AnswerTells stripe ops node.0 id count bytes before after (f == file)
 TellsOne stripe ops file _ before after = after ≡ before
 
--- The trace tells them one by one.
+-- The trace reports them one by one.
 abbrev pub Tells : ℕ → (ℕ × ℕ → Op) → ℕ → List Entry → List heads.Entry → List heads.Entry → Type 0
 Tells stripe ops file [] before after = after ≡ before
 Tells stripe ops file (e ∷ r) before after =
@@ -56,8 +56,8 @@ AnswersFit stripe ops file entries =
     → IsBefore before (entry.Answer node file id count bytes) entries
     → Shows stripe ops (write_order file before) id count bytes (ops (name_of id))
 
--- Where what a trace tells of a file fits one order, each claim of the trace is borne out by the order of writes that the trace
--- itself gives, and no write stands there twice.
+-- Where what a trace reports of a file fits one order, each claim of the trace agrees with the order of writes that the trace
+-- itself gives, and no write is in it twice.
 abbrev pub TracesAreOnOneOrder : Type 0
 TracesAreOnOneOrder =
     (stripe : ℕ) (ops : ℕ × ℕ → Op) (file : ℕ) (entries : List Entry) (es : List heads.Entry)
@@ -80,7 +80,7 @@ abbrev pub AreIssued : ℕ → List Entry → Type 0
 AreIssued file entries =
     (moment : List Entry) (id : OpId) → IsMoment moment entries → Has id (write_order file moment) → IsIssued file moment id
 
--- So it is where what the trace tells issues each write first, and nothing had been issued at its begin.
+-- So it is where what the trace reports issues each write first, and nothing had been issued at its begin.
 abbrev pub TracesIssueFirst : Type 0
 TracesIssueFirst =
     (stripe : ℕ) (ops : ℕ × ℕ → Op) (file : ℕ) (entries : List Entry) (es : List heads.Entry)
@@ -94,7 +94,7 @@ pub record HaveBegun (ops : ℕ × ℕ → Op) (file : ℕ) (entries : List Entr
   pub issued : (moment : List Entry) (id : OpId) → IsMoment moment entries → IsIssued file moment id
       → operation_begun file moment id ≡ Some (ops (name_of id))
 
--- Where only writes and truncations stand in the order, each stands there once, and had begun before.
+-- Where only writes and truncations are in the order, each is in it once, and had begun before.
 abbrev pub TracesAreOnce : Type 0
 TracesAreOnce =
     (stripe : ℕ) (ops : ℕ × ℕ → Op) (file : ℕ) (entries : List Entry) (es : List heads.Entry)

@@ -10,8 +10,8 @@ ghost use Rattle.file_runs.specs.Sample.{SampleRuns};
 ghost use Rattle.file_runs.specs.TraceRuns.{RunsAreSafe};
 ghost use Rattle.file_runs.specs.Traces.{TracesAreOnOneOrder, TracesShow, TracesIssueFirst, TracesAreOnce, FitsShow};
 
-/// After every run of a file among OSDs, all that its nodes have marked is told by entries that fit one order of writes: who is
-/// active or commits tells the order's length and its last write, what is issued is one past it, a read is answered with its
+/// After every run of a file among OSDs, all that its nodes have marked is reported by entries that fit one order of writes: who is
+/// active or commits reports the order's length and its last write, what is issued is one past it, a read is answered with its
 /// length and the asked range of its content, and a write with its place. What stands in the order had been issued before.
 pub fn runs_are_on_one_order()
     ensures { AlwaysOnOneOrder }
@@ -22,8 +22,8 @@ pub fn a_run_reads_a_byte()
     ensures { SampleRuns }
 {}
 
-/// Where what a trace tells of a file fits one order of writes, each claim of the trace is borne out by the order that the trace
-/// itself gives, and no write stands there twice.
+/// Where what a trace reports of a file fits one order of writes, each claim of the trace agrees with the order that the trace
+/// itself gives, and no write is in it twice.
 pub fn traces_are_on_one_order()
     ensures { TracesAreOnOneOrder }
 {}
@@ -40,8 +40,8 @@ pub fn every_run_of_a_file_is_safe()
     ensures { RunsAreSafe }
 {}
 
-/// Where what a trace tells of a file issues each write first, each write that stands in the order at a moment has been issued by then,
-/// also one that an activation puts there.
+/// Where what a trace reports of a file issues each write first, each write that stands in the order at a moment has been issued by
+/// then, also one that an activation puts there.
 pub fn writes_are_issued_first()
     ensures { TracesIssueFirst }
 {}

@@ -1,4 +1,4 @@
--- what the calls tell, by the definitions
+-- what the calls report, in the words of the definitions
 use Rattle.std.specs.Prelude.{ℕ, if◌then◌else◌, Option, Some, None}
 use Rattle.xt_base.specs.declared.ids.Ballot.{Ballot}
 use Rattle.xt_base.specs.declared.ids.Lease.{Lease}

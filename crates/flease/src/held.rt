@@ -255,7 +255,7 @@ impl Held {
         self.renewal.map(|round| (round.ballot(), round.lease()))
     }
 
-    /// Ends the renewal where half the lease length has passed since its start.
+    /// Ends the renewal once half the lease length has passed since its start.
     pub fn end_overdue_renewal(&mut self, now: u64)
         ensures { self.new ≡
             record self.old { renewal = protocol.renewal_left self.old.renewal now } }

@@ -23,7 +23,7 @@ use Rattle.forgetting.proofs.Rows.{Ascend, AreBefore, AreOf, some_records, last_
 use Rattle.forgetting.proofs.Folded.{folds_rise, rise_without, up_without}
 use Rattle.forgetting.proofs.Said.{logged_fold}
 
--- a record that may come at any time
+-- a record that can come at any time
 abbrev pub IsEasy : Record → Type 0
 IsEasy (kept.Stage file object version bytes) = Unit {0}
 IsEasy (kept.View file location) = Unit {0}

@@ -67,7 +67,7 @@ pub record IsJournal (super : Option Superblock) (bytes : List ℕ) (payloads : 
   pub shut : gate ≢ open_gate
   pub reached : Reached super bytes payloads (gate ∷ rest)
 
--- in 13 bytes or less no record can stand
+-- in 13 bytes or less there can be no record
 pub record IsShort (super : Option Superblock) (bytes : List ℕ) (payloads : List (List ℕ)) : Type 0 where
   pub short : length bytes ≤ 13
   pub none : payloads ≡ []
@@ -87,12 +87,12 @@ StandsFor bytes payloads = ∥ ((super : Option Superblock) × StandsIn super by
 abbrev pub IsUnsound : ℕ → ℕ → List ℕ → Type 0
 IsUnsound size gate payload = (length payload ≢ superblock_size) ⊎ (IsSound size (superblock_in gate payload) → ⊥)
 
--- where there is one already no second may come
+-- where there is one already, no record of that kind counts as a second one
 abbrev pub IsUnfit : Option Superblock → ℕ → ℕ → List ℕ → Type 0
 IsUnfit None size gate payload = IsUnsound size gate payload
 IsUnfit (Some s) size gate payload = Unit {0}
 
--- a record of a superblock's kind that may not stand at this gate
+-- a record of a superblock's kind that may not be at this gate
 pub record IsNoSuperblock (super : Option Superblock) (size gate : ℕ) (rest : List ℕ) : Type 0 where
   pub payload : List ℕ
   pub more : List ℕ
@@ -102,7 +102,7 @@ pub record IsNoSuperblock (super : Option Superblock) (size gate : ℕ) (rest : 
   pub are : rest ≡ record_of payload ++ more
   pub unfit : IsUnfit super size gate payload
 
--- Reading ends at an open gate at this place, after which no record comes that may stand there.
+-- Reading ends at an open gate at this place, after which no record comes that may be there.
 pub record IsDamaged (bytes : List ℕ) (place : ℕ) : Type 0 where
   pub long : 13 < length bytes
   pub super : Option Superblock

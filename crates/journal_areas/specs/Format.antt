@@ -21,7 +21,7 @@ records (payload ∷ payloads) = open_gate ∷ (record_of payload ++ records pay
 abbrev pub journal_of : List (List ℕ) → List ℕ
 journal_of payloads = header ++ (records payloads ++ 0 ∷ [])
 
--- the place of the gate after the records, where nothing else stands among them
+-- the place of the gate after the records, where nothing else is among them
 abbrev pub end_of : List (List ℕ) → ℕ
 end_of payloads = 12 + length (records payloads)
 

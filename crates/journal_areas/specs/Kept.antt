@@ -1,4 +1,4 @@
--- Disks on which a journal stands, all of it synced.
+-- Disks that hold a journal, all of it synced.
 use Rattle.std.specs.Prelude.{ℕ, ◌≡◌, Option, List}
 use Rattle.disk_model.specs.Disk.{Kept, at_rest}
 use Rattle.journal_areas.specs.declared.superblock.Superblock.{Superblock}

@@ -1,4 +1,4 @@
--- Where the areas of a journal stand, and where a new one goes.
+-- Where the areas of a journal are, and where a new one goes.
 use Rattle.std.specs.Prelude.{ℕ, ◌+◌, ◌-◌, ◌==◌, ◌&&◌, nat_le, nat_lt, not, Bool, false, if◌then◌else◌, Option, Some, None, List, length}
 use Rattle.journal_areas.specs.declared.superblock.Slot.{Slot}
 use Rattle.journal_areas.specs.declared.superblock.Superblock.{Superblock}
@@ -46,7 +46,7 @@ is_second s = (s.one.gate == open_gate) && not ((s.two.gate == open_gate) && nat
 abbrev pub put : Bool → Superblock → Slot → Superblock
 put second s slot = if second then record s { two = slot } else record s { one = slot }
 
--- what stands in that slot
+-- what is in that slot
 abbrev pub slot_at : Bool → Superblock → Slot
 slot_at second s = if second then s.two else s.one
 

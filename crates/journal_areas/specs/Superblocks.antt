@@ -18,7 +18,7 @@ slot_in bytes = record {
   first = big_number 8 (drop 17 bytes);
 }
 
--- the superblock that a payload says, whose record's gate stands at this place
+-- the superblock that a payload says, whose record's gate is at this place
 abbrev pub superblock_in : ℕ → List ℕ → Superblock
 superblock_in gate payload = record { gate = gate; one = slot_in (drop 1 payload); two = slot_in (drop 26 payload) }
 

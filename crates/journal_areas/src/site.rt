@@ -44,7 +44,7 @@ pub fn area_of(slot: &Option<Slot>, end: u64) -> Area
     }
 }
 
-/// The number of the area after the one that counts; none where numbers of 64 bits are spent.
+/// The number of the area after the one that counts; none where numbers of 64 bits are used up.
 pub fn next_number(slot: &Option<Slot>) -> Option<u64>
     ensures { MatchOption result (2 ^ 64 ≤ number_after slot.now) (λ n. n ≡ number_after slot.now) }
 {

@@ -1,4 +1,4 @@
-//! Whether a superblock may stand where it does.
+//! Whether a superblock may be where it is.
 ghost use Rattle.std.specs.Prelude.{◌↔◌, ◌≤◌, ◌≡◌, ◌≢◌, IsTrue};
 ghost use Rattle.journal_areas.specs.Superblocks.{base_of, IsOpen, IsSite, IsSound};
 
@@ -21,7 +21,7 @@ fn are_told_apart(one: &Slot, two: &Slot) -> bool
 }
 
 impl Superblock {
-    /// Whether what it says can be, in a journal of so many bytes, in which its own record stands.
+    /// Whether what it says can be, in a journal of so many bytes, its own record among them.
     pub fn is_sound(&self, size: u64) -> bool
         requires { base_of self.now ≤ size }
         ensures { IsTrue result ↔ IsSound size self.now }

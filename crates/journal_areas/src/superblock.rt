@@ -5,7 +5,7 @@ ghost use Rattle.journal_areas.specs.Superblocks.{current, slot_in, superblock_i
 use byteorder::{BigEndian, ByteOrder};
 use disk_model::OPEN_GATE;
 
-/// Where an area stands, as one half of a superblock says it.
+/// Where an area is, as one half of a superblock says.
 #[derive(Clone, Copy)]
 pub struct Slot {
     /// The slot counts only where this is the open gate.
@@ -18,7 +18,7 @@ pub struct Slot {
     pub first: u64,
 }
 
-/// The superblock of a journal: where it stands, and its two slots.
+/// The superblock of a journal: where it is, and its two slots.
 #[derive(Clone, Copy)]
 pub struct Superblock {
     /// The place of its record's gate.
@@ -41,7 +41,7 @@ fn slot_in(bytes: &[u8]) -> Slot
 }
 
 impl Superblock {
-    /// The superblock that a payload of 51 bytes is, whose record's gate stands at this place.
+    /// The superblock that a payload of 51 bytes is, whose record's gate is at this place.
     pub fn read(gate: u64, payload: &[u8]) -> Superblock
         requires { length payload.now ≡ 51 }
         ensures { result ≡ superblock_in gate payload.now }
@@ -61,7 +61,7 @@ impl Superblock {
             && !(self.two.gate == OPEN_GATE && self.one.number < self.two.number)
     }
 
-    /// What stands in a slot.
+    /// What is in a slot.
     pub fn slot(&self, second: bool) -> Slot
         ensures { result ≡ slot_at second self.now }
     {

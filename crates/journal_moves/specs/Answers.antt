@@ -14,7 +14,7 @@ IsPlaced None end = Unit {0}
 IsPlaced (Some s) end = base_of s ≤ end + 1
 
 -- What a journal would need that can't move to an area of this size within this limit: as many bytes as pass it, or, where the
--- numbers of areas are spent, the limit itself.
+-- numbers of areas are used up, the limit itself.
 abbrev pub full_need : Option Superblock → ℕ → ℕ → ℕ → Option ℕ
 full_need super end size limit =
     if nat_lt limit (need_for super end size) then Some (counted (need_for super end size))

@@ -17,7 +17,7 @@ use journal_areas::{Slot, Superblock, next_number, site_of};
 use std::alloc::Global;
 use xt_base::{Failed, Octets, OutOfMemory};
 
-/// Where the journal on a disk stands.
+/// Where the journal on a disk is.
 #[derive(Clone, Copy)]
 pub struct Located {
     /// Its superblock, if it has one.
@@ -29,14 +29,15 @@ pub struct Located {
 /// Why a journal doesn't move.
 #[derive(Clone, Copy)]
 pub enum Refusal {
-    /// The disk has failed, and its count of faults tells it. What it holds stands for what the journal stood for, or for the payloads.
+    /// The disk has failed, as its count of faults shows. It holds what stands for the old payloads, or for the new ones.
     Broken,
-    /// That needs so many bytes, at most `u64::MAX`, which pass the limit; or, where this is the limit, the numbers of areas are spent.
+    /// That needs so many bytes, at most `u64::MAX`, which pass the limit; or, where this is the limit, the numbers of areas are used
+    /// up.
     Full { need: u64 },
     OutOfMemory,
 }
 
-/// Moves the journal on a disk to a new area of these payloads, so that it then stands for them alone, and says where it stands then.
+/// Moves the journal on a disk to a new area of these payloads, so that it then stands for them alone, and says where it is then.
 ///
 /// Each payload has a length of 1 to `u32::MAX` bytes and doesn't begin with the byte 8. The area is written where nothing counts.
 /// Nothing is written where the answer is `Full` or `OutOfMemory`.

@@ -1,4 +1,4 @@
--- The bytes of one record of a journal, and what stands at a gate.
+-- The bytes of one record of a journal, and what is at a gate.
 use Rattle.std.specs.Prelude.{ℕ, ◌+◌, ◌^◌, ◌<◌, ◌≤◌, ◌≡◌, ◌≢◌, ◌⊎◌, List, ◌∷◌, ◌++◌, length}
 use Rattle.byteorder.specs.Endian.{big_bytes, big_number}
 use Rattle.disk_model.specs.Gate.{open_gate}
@@ -34,7 +34,7 @@ pub record IsCut (bytes : List ℕ) : Type 0 where
   pub are : bytes ≡ open_gate ∷ rest
   pub cut_off : IsCutOff rest
 
--- what stands where a record may
+-- what is in a place where a record may be
 abbrev pub IsNext : List ℕ → Next → Type 0
 IsNext bytes next.Closed = IsClosed bytes
 IsNext bytes next.CutOff = IsCut bytes

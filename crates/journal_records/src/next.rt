@@ -4,14 +4,14 @@ ghost use Rattle.journal_records.specs.Records.{IsNext};
 use byteorder::{BigEndian, ByteOrder};
 use disk_model::OPEN_GATE;
 
-/// What stands where a record may.
+/// What is in a place where a record may be.
 pub enum Next<'a> {
     Closed,
     CutOff,
     Record { payload: &'a [u8], rest: &'a [u8] },
 }
 
-/// What stands at a gate: after an open one a record, of which the next gate is the end.
+/// What is at a gate: after an open one a record, of which the next gate is the end.
 pub fn next_record(rest: &[u8]) -> Next<'_>
     requires { 1 ≤ length rest.now }
     ensures { IsNext rest.now result }

@@ -126,7 +126,7 @@ module _ (file : ℕ) (whole : OpId → Option Call) where
     pub fits_so : (fits_end file k (ok_told e) && fits_begin file k e) ≡ true
     pub place : location_told file e ≡ None
 
-  -- an entry that tells nothing of a file, a node or a call
+  -- an entry that reports nothing of a file, a node or a call
   silent : (k : Kept) (e : Entry)
       → ((node : NodeId) (s : Option RunningBoot) → standing_after node file s e ≡ advances (ticks_of e) s)
       → looked_at file e ≡ None → acts_on file e ≡ None → claim_on file e ≡ None → answer_on file e ≡ None → location_told file e ≡ None

@@ -1,4 +1,4 @@
--- What the pass keeps tells what each clause says of the entries so far.
+-- What the pass keeps determines what each clause says of the entries so far.
 use Rattle.std.proofs.Common.{◌≡◌, ℕ, ◌⊎◌, inl, inr, Bool, true, false, List, [], ◌∷◌, ◌++◌, Option, Some, None, refl, sym, ap, ◌∙◌, true≢false}
 use Rattle.std.specs.Prelude.{Decides, ◌&&◌}
 use Rattle.std.specs.Option.{option_or}
@@ -21,7 +21,7 @@ use Rattle.judging.proofs.Contents.{AllBegun, AllShown, begun_more, content_more
 use Rattle.judging.specs.Laws.{IsAnswered}
 use Rattle.judging.proofs.Ends.{HasEnded, decides_answered, decides_ended, ends_more, ends_fewer, decides_ends}
 
--- What is kept of these entries tells what they say. Content and answers count only while each write stands once.
+-- What is kept of these entries agrees with what they say. Content and answers count only while each write stands once.
 pub record IsKept (drift stripe file : ℕ) (es : List Entry) (k : Kept) : Type 0 where
   pub stands : (n : NodeId) → k.stands n ≡ standing n file es
   pub order : k.order ≡ write_order file es
@@ -38,7 +38,7 @@ pub record IsKept (drift stripe file : ℕ) (es : List Entry) (k : Kept) : Type 
   pub says_shown : k.says once ≡ true → Decides (k.says shown) (AllShown stripe file es)
   pub says_fresh : Decides (k.says fresh) (EndsAreAnswered file es)
 
--- the drift of the trace tells who holds at this moment
+-- the drift of the trace determines who holds at this moment
 abbrev pub HasDrift : ℕ → ℕ → List Entry → Type 0
 HasDrift drift file es = (n : NodeId) → holds es n file ≡ holds_as drift (standing n file es)
 

@@ -71,7 +71,8 @@ dealt_to file entries = dealt (is_dealt file (λ id. begun id entries)) 0 0 entr
 abbrev pub advanced : ℕ → Kept → Kept
 advanced ticks k = record k { stands = λ node. advances ticks (k.stands node) }
 
--- Where the file is broken by one of the entries dealt to it, after others of which this is kept. Before its place is told nothing is.
+-- Where the file is broken by one of the entries dealt to it, after others of which this is kept. Nothing counts as broken before its place
+-- is reported.
 unfoldable pub found_from : ℕ → ℕ → ℕ → Kept → Bool → List Dealt → Option Break
 found_from drift stripe file k placed [] = None
 found_from drift stripe file k placed (d ∷ ds) =

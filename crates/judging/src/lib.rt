@@ -18,7 +18,7 @@ pub fn passes_judge()
         judged file entries ≡ None → IsSafeFor file entries }
 {}
 
-/// The least break that the pass finds in any file told is where the trace is broken; where it finds none the trace is safe.
+/// The least break that the pass finds in any reported file is where the trace is broken; where it finds none the trace is safe.
 pub fn audits_judge()
     ensures { AuditsJudge }
 {}

@@ -133,7 +133,7 @@ message_shows outside osd reading msg file awake is_awake concerns =
 
 -- ---- a Wake
 
--- asking for a lease tells of no end
+-- asking for a lease reports no end
 no_end : (g : LeaseSetting) (node : NodeId) (now : ℕ) (x : LeaseRow) (l : LeaseState) → listed (row_asks g node now x l).end ≡ []
 no_end g node now x (free p) = refl
 no_end g node now x (asking r) = refl

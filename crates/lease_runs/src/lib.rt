@@ -1,8 +1,9 @@
 //! The lease of one file among nodes that run its rows, and how the step of an OSD shows in the lease of each of its files.
 //!
 //! Nodes start and stop, clocks advance, leases expire, nodes ask and messages come, in any order. In each world that such moves lead
-//! to at most one node holds the lease, as it was told, and a node that may act on the lease that it has holds it: each world is one of
-//! an abstract history of `lease_safety`. An OSD's steps are such moves, file by file, and it acts as a primary only under a lease.
+//! to at most one node holds the lease, as it was reported, and a node that may act on the lease that it has holds it: each world is
+//! one of an abstract history of `lease_safety`. An OSD's steps are such moves, file by file, and it acts as a primary only under a
+//! lease.
 #![tactic(auto)]
 
 ghost use Rattle.std.specs.Prelude.{◌≡◌, ◌≤◌, ◌+◌, ℕ, true};
@@ -13,13 +14,13 @@ ghost use Rattle.lease_runs.specs.OsdView.{OsdShowsLeases};
 ghost use Rattle.lease_runs.specs.OutsView.{SendsByFile};
 ghost use Rattle.lease_runs.specs.ActsView.{ShowsActs};
 
-/// In each world that moves lead to at most one node holds the lease, as it was told.
+/// In each world that moves lead to at most one node holds the lease, as it was reported.
 pub fn one_node_holds()
     ensures { (g : LeaseSetting) (w : LeaseWorld) (a b : ℕ) → IsReached g w →
         IsHolding g (w.node a) → IsHolding g (w.node b) → a ≡ b }
 {}
 
-/// A node that may act on the lease that it has holds it, as it was told.
+/// A node that may act on the lease that it has holds it, as it was reported.
 pub fn a_turn_is_held()
     ensures { (g : LeaseSetting) (w : LeaseWorld) (n : ℕ) → IsReached g w →
         HasTurn (w.node n) (w.node n).row.lease → IsHolding g (w.node n) }

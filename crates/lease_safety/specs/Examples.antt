@@ -11,7 +11,7 @@ use Rattle.lease_safety.specs.Leases.{Holds}
 abbrev pub trio : Setting
 trio = record { members = 1 ∷ 2 ∷ 3 ∷ []; lease = 100; drift = 10 }
 
--- A history that goes on by these moves, told in the order of time.
+-- A history that goes on by these moves, listed in the order of time.
 abbrev pub continued : List Move → List Move → List Move
 continued history [] = history
 continued history (move ∷ moves) = continued (move ∷ history) moves
@@ -68,16 +68,16 @@ abbrev pub clocks_apart : List Move
 clocks_apart =
     continued one_holds (Clocks_advance (put (λ n. 210) 1 110) ∷ Round_begins next ∷ voted 2 1 next None ++ voted 3 1 next (Some first) ++ Round_held next ∷ [])
 
--- Node 3 tells of the live lease and isn't counted, but accepts the rival all the same.
+-- Node 3 reports the live lease and isn't counted, but accepts the rival all the same.
 abbrev pub accepted_uncounted : List Move
 accepted_uncounted =
     continued one_holds (Round_begins rival ∷ voted 2 1 rival None ++ Round_promised 3 rival ∷ Round_accepted 3 rival ∷ Round_held rival ∷ [])
 
--- Node 3 tells of the live lease, and is counted.
+-- Node 3 reports the live lease, and is counted.
 abbrev pub live_report_counted : List Move
 live_report_counted = continued one_holds (Round_begins rival ∷ voted 2 1 rival None ++ voted 3 1 rival (Some first) ++ Round_held rival ∷ [])
 
--- A promise of node 3 is counted that tells of no lease, which it never made.
+-- A promise of node 3 is counted that reports no lease, and that it never made.
 abbrev pub invented_promise_counted : List Move
 invented_promise_counted = continued one_holds (Round_begins rival ∷ voted 2 1 rival None ++ voted 3 1 rival None ++ Round_held rival ∷ [])
 
@@ -126,7 +126,7 @@ abbrev pub never_begun : List Move
 never_begun = continued ready forgotten_ahead
 
 -- Node 1 begins a lower round after a higher one, and holds the lower. Node 3 then accepts the higher, which ends earlier,
--- and tells of that alone.
+-- and reports that alone.
 abbrev pub high : Round
 high = round 5 1 1 110
 
@@ -197,7 +197,7 @@ promised_while_stopped =
     )
 
 -- Node 4, no member, begins a round, and node 1 a lower one, which it holds. Node 4 stops, its clock is set ahead, and it
--- counts the report of node 3, which then accepts the round of node 4, which ends earlier, and tells of that alone.
+-- counts the report of node 3, which then accepts the round of node 4, which ends earlier, and reports that alone.
 abbrev pub stranger : Round
 stranger = round 2 4 1 110
 

@@ -87,10 +87,10 @@ pub record MayPromise (rules : Rules) (setting : Setting) (state : State) (node 
   -- it has been silent since its start for a lease and the drift: every lease that an earlier boot of the node promised
   -- is over, so that it does no harm to have forgotten them. (A silent boot that promises nothing accepts nothing.)
   pub silent : Asked rules.boots_are_silent (state.nodes.started node + (setting.lease + setting.drift) ≤ state.nodes.clock node)
-  -- it has promised nothing as high: whoever accepts a round has told of all rounds below it that it ever accepts
+  -- it has promised nothing as high: whoever accepts a round has reported all rounds below it that it ever accepts
   pub rises : Asked rules.promises_rise (IfSome (state.promised node) (λ last. IsBelow last.ballot round.ballot))
 
--- The report tells of no lease that another proposer may still hold: it is of none, of one of the counting proposer's own,
+-- The report is of no lease that another proposer may still hold: it is of none, of one of the counting proposer's own,
 -- or of one that is over by the counting proposer's clock, which counts while it runs.
 abbrev pub IsHarmless : Rules → Setting → Nodes → Ballot → Option Round → Type 0
 IsHarmless rules setting nodes ballot None = Unit {0}
@@ -119,7 +119,7 @@ HasAccepted accepts round node = (boot : ℕ) × Has (record { node = node; boot
 abbrev pub Majority : List ℕ → (ℕ → Type 0) → Type 0
 Majority members IsSo = (test : ℕ → Bool) × (length members < 2 * count_by test members) × ((node : ℕ) → test node ≡ true → IsSo node)
 
--- The round's proposer may hold its lease. (That the lease isn't over yet isn't asked: who holds is told by the clock at
+-- The round's proposer may hold its lease. (That the lease isn't over yet isn't asked: who holds is decided by the clock at
 -- each moment.)
 pub record MayHold (rules : Rules) (setting : Setting) (state : State) (round : Round) : Type 0 where
   -- it is a round of the node's present boot

@@ -7,7 +7,7 @@ pub data Move : Type 0 where
   -- a node starts, under a boot number and at a clock; a node stops
   Boot_starts : (node boot clock : ℕ) → Move
   Boot_stops : (node : ℕ) → Move
-  -- clocks advance, one alone or many at once: each is then as told
+  -- clocks advance, one alone or many at once: each is then as given
   Clocks_advance : (now : ℕ → ℕ) → Move
   -- a proposer begins a round
   Round_begins : (round : Round) → Move

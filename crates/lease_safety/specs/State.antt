@@ -1,4 +1,4 @@
--- What is so at one moment: of the nodes, and of the acceptors and proposers of one file.
+-- What is known at one moment: of the nodes, and of the acceptors and proposers of one file.
 use Rattle.std.specs.Prelude.{◌≡◌, ℕ, Bool, false, Option, None, List, [], ◌∷◌, ◌⊎◌, ◌==◌, if◌then◌else◌}
 use Rattle.lease_safety.specs.Rounds.{Round}
 
@@ -9,7 +9,7 @@ pub record Setting : Type 0 where
   pub lease : ℕ
   pub drift : ℕ
 
--- What is so of each node: whether it runs, its boot (of a node that doesn't run, the last one; 0 before the first), its
+-- What is known of each node: whether it runs, its boot (of a node that doesn't run, the last one; 0 before the first), its
 -- clock, and what its clock was when that boot started. All files share it.
 pub record Nodes : Type 0 where
   pub runs : ℕ → Bool

@@ -45,8 +45,8 @@ abbrev pub HighestHarmless : State → Move → Type 0
 HighestHarmless state (Promise_counted promise) = Has promise state.promises × IsOutdone state promise promise.report
 HighestHarmless state _ = Unit {0}
 
--- Node 3 starts again with a clock that is the drift behind, and is silent for a lease. Meanwhile the clock of node 1 goes
--- slower, until it is the drift behind.
+-- Node 3 starts again with a clock that lags by the drift, and is silent for a lease. Meanwhile the clock of node 1 goes
+-- slower, until it lags by the drift.
 abbrev pub after_a_lease : Round
 after_a_lease = round 2 2 1 200
 
@@ -58,7 +58,7 @@ silent_for_a_lease =
     )
 
 -- Node 1 begins a round, and counts a boot of node 3. Its next boot accepts the lease of node 2, and then the old round of
--- node 1, for which it wasn't counted; so it tells of that alone, which is over, when node 1 begins its next one.
+-- node 1, for which it wasn't counted; so it reports that alone, which is over, when node 1 begins its next one.
 abbrev pub old_high : Round
 old_high = round 5 1 1 110
 
@@ -78,7 +78,7 @@ accepted_by_another_boot =
     )
 
 -- Node 2 alone accepts its own high round. Node 1 holds a lower one, which it begins later, by the members 1 and 3. Then
--- node 2 counts its own report, and with it that of node 3, which tells of the live lease of the lower round.
+-- node 2 counts its own report, and with it that of node 3, which reports the live lease of the lower round.
 abbrev pub high_alone : Round
 high_alone = round 5 2 1 110
 

@@ -25,7 +25,7 @@ formed_fit (l ∷ ls) are = (are.0.1, later_fit ls are.1)
 pub generated_fit : (number size : ℕ) → size ≤ 4096 → AreLines (generated number size)
 generated_fit number size few = formed_fit (generated number size) (generated_scheduled number size few).formed
 
--- a front of lines within their limits is so
+-- a front of lines within their limits is within them
 later_front : (lines more : List Line) → AllByRecursion FitsLater (lines ++ more) → AllByRecursion FitsLater lines
 later_front [] more are = tt
 later_front (l ∷ ls) more are = (are.0, later_front ls more are.1)

@@ -88,7 +88,7 @@ stops room all lines later l old new number e split so_far counted refused = (of
     never (error.Full need limit) same = cc
     never error.OutOfMemory same = cc
 
--- what is told of lines that were all done: those of their run
+-- what is reported of lines that were all done: those of their run
 pub entries_are : (room : Room) (lines given : List Line) (w : World) (entries : List Entry)
     → given ≡ lines
     → w ≡ run_of room given

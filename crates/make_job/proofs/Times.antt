@@ -20,13 +20,13 @@ no_times-append : (es more : List Entry) → HaveNoTimes es → HaveNoTimes more
 no_times-append [] more none later = later
 no_times-append (e ∷ es) more none later = (none.0, no_times-append es more none.1 later)
 
--- entries that don't tell the times may come after any others
+-- entries that don't report the times can follow any others
 still_first : (es more : List Entry) → TimesStandFirst es → HaveNoTimes more → TimesStandFirst (es ++ more)
 still_first [] [] first none = tt
 still_first [] (e ∷ es) first none = none.1
 still_first (e ∷ es) more first none = no_times-append es more first none
 
--- no mark of a node tells them
+-- no mark of a node reports them
 mark_untimed : (node : NodeId) (m : Mark) → times_told (entry_of node m) ≡ None
 mark_untimed node (mark.File file location) = refl
 mark_untimed node (mark.Begin number call) = refl
@@ -45,7 +45,7 @@ files_untimed : (files : List PlacedFile) → HaveNoTimes (map file_entry files)
 files_untimed [] = tt
 files_untimed (f ∷ fs) = (refl, files_untimed fs)
 
--- the trace so far tells them first, if at all
+-- the trace so far reports them first, if at all
 abbrev TellsTimesFirst : World → List Msg → Type 0
 TellsTimesFirst w own = TimesStandFirst w.entries
 

@@ -1,4 +1,4 @@
--- what a make counts in a trace, and the line that tells it
+-- what a make counts in a trace, and the line that reports it
 use Rattle.std.specs.Prelude.{ℕ, Bool, true, false, List, [], ◌∷◌, ◌+◌, if◌then◌else◌, count_by, codes}
 use Rattle.std.specs.Fmt.{decimal}
 use Rattle.xt_messages.specs.declared.event.Call.TheVariants as call
@@ -28,7 +28,7 @@ abbrev pub counts_of : List Entry → Counts
 counts_of entries =
     record { writes = count_by begins_write entries; reads = count_by begins_read entries; commits = count_by commits entries }
 
--- one more, where it is so
+-- 1 where it is true, and else 0
 abbrev pub one_if : Bool → ℕ
 one_if so = if so then 1 else 0
 

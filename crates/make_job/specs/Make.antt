@@ -52,7 +52,7 @@ EndsWith room lines status.OutOfMemory = Unit {0}
 -- no other status ends it; no run's trace is broken
 EndsWith room lines _ = ⊥
 
--- ---- what is told of it
+-- ---- what is reported of it
 
 -- what is put where a make ends so: its one line, with the counts of the trace, or the last line of its status
 abbrev pub text_of : Room → ℕ → ℕ → Status → List ℕ
@@ -69,9 +69,9 @@ IsTold before after text said given =
 -- A make over journals with this room: what its sink held before it and after it, how often that had failed, and its status.
 pub record IsMake (room : Room) (number size : ℕ) (held_before held_after : Option (List ℕ)) (faults_before faults_after : ℕ) (given : Status)
     : Type 0 where
-  -- why the replay of the generated schedule ends, and what is told of it
+  -- why the replay of the generated schedule ends, and what is reported of it
   pub said : Status
   pub found : EndsWith room (generated number size) said
   pub told : IsTold held_before held_after (text_of room number size said) said given
-  -- a fault of the sink is told, where its count rose; with any other status it didn't
+  -- a fault of the sink is reported, where its count rose; with any other status it didn't
   pub cause : CausesEnd faults_before faults_after given

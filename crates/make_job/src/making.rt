@@ -25,7 +25,7 @@ use world_disk_hull::DiskHull;
 use xt_base::{Octets, OutOfMemory};
 use xt_messages::Status;
 
-/// Audits a trace that is safe, and gives the line that tells so, with what the trace has. Its files are judged beside each other.
+/// Audits a trace that is safe, and gives the line that says so, with what the trace has. Its files are judged beside each other.
 fn audited<R: Threads + Sync, G: Gate>(
     rt: &R,
     alloc: Global,
@@ -69,8 +69,8 @@ fn made<R: Threads + Sync, G: Gate>(
     }
 }
 
-/// Replays the schedule that the number and the size generate, audits its trace, and tells in one line what it has: all that the
-/// command `make` does. A line of the schedule that isn't done ends it, and is told. Each gate lets the same come.
+/// Replays the schedule that the number and the size generate, audits its trace, and reports in one line what it has: all that the
+/// command `make` does. A line of the schedule that isn't done ends it, and is reported. The outcome is the same for every gate.
 pub fn make<R: Threads + Sync, K: Sink, G: Gate>(
     rt: &R,
     alloc: Global,

@@ -36,7 +36,7 @@ fn push_count(
     push_number(alloc, line, count)
 }
 
-/// The line that tells what a safe trace has.
+/// The line that reports what a safe trace has.
 pub fn made_line(
     alloc: Global,
     number: u64,

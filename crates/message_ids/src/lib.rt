@@ -1,7 +1,7 @@
 //! Which message a part is of: who sent it, in which boot, and the number that the sender gave it.
 //!
-//! `is` tells two messages apart by all three. A sender that starts again numbers its messages from 1 once more, so two messages
-//! may differ in their boot alone.
+//! `is` distinguishes two messages by all three. A sender that starts again numbers its messages from 1 once more, so two
+//! messages may differ in their boot alone.
 #![tactic(auto)]
 
 ghost use Rattle.std.specs.Prelude.{◌≡◌};

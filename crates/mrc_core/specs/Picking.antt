@@ -10,7 +10,7 @@ use Rattle.xt_messages.specs.declared.record.Logged.TheVariants as logged
 use Rattle.xt_messages.specs.declared.record.Record.{Record}
 use Rattle.xt_messages.specs.declared.record.Record.TheVariants as kept
 
--- a new file wants one to nine OSDs
+-- a new file asks for one to nine OSDs
 abbrev pub WantsSome : MetaReq → Type 0
 WantsSome (ask.Create path mode kind n stripe) = (1 ≤ n) × (n ≤ 9)
 WantsSome _ = Unit {0}

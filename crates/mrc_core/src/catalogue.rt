@@ -31,7 +31,7 @@ use volume_tree::{Tree, TreeErr};
 use xt_base::{FileId, Members, Name, NodeId, OutOfMemory, SizeMark};
 use xt_messages::{Logged, MetaAnswer, MetaRefusal, MetaReq, Record};
 
-/// What the records tell: the volumes, the files that were ever made, and what each client was answered last.
+/// What the records say: the volumes, the files that were ever made, and what each client was answered last.
 #[derive(Drop)]
 pub struct Catalogue {
     tree: Tree,
@@ -318,7 +318,7 @@ impl Catalogue {
         Ok(())
     }
 
-    /// Does what a request does that is recorded; any other changes nothing, nor does want of memory.
+    /// Does what a request does that is recorded; any other changes nothing, nor does running out of memory.
     fn repeat(
         &mut self,
         alloc: Global,
@@ -344,7 +344,7 @@ impl Catalogue {
         }
     }
 
-    /// Takes what a record tells. Nothing changes if memory runs out.
+    /// Takes what a record says. Nothing changes if memory runs out.
     pub fn take(&mut self, alloc: Global, key: &[u8], rec: &Record) -> Result<(), OutOfMemory>
         requires some { 1 ≤ length key.now }
         requires short { length key.now ≤ 64 }

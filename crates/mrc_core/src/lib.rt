@@ -1,8 +1,8 @@
 //! The metadata server (MRC): volumes with directories and files, and capabilities for what is in the files.
 //!
 //! `Mrc::step` computes the step that `server_rows` defines row by row: a request that may change something is recorded, and a
-//! repeated one gets the same answer. The records tell the volumes, the files that were ever made and what each client was answered
-//! last (`Catalogue`), so that a server that starts again goes on where it was. Want of memory changes nothing.
+//! repeated one gets the same answer. The records say which volumes there are, which files were ever made and what each client was
+//! answered last (`Catalogue`), so that a server that starts again goes on where it was. Running out of memory changes nothing.
 //!
 //! A catalogue's `plan` says how a request is handled and changes nothing; `change` and `set` do what is recorded and keep the answer,
 //! and `take` does so again from the record.

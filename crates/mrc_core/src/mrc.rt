@@ -73,7 +73,7 @@ fn asks_dir() -> Msg
     message(MRC_NODE, DIR_NODE, Payload::Registry { number: 0, request })
 }
 
-/// Takes what the records tell, one after the other. Where memory runs out, those before that have been taken.
+/// Takes what the records say, one after the other. Where memory runs out, those before that have been taken.
 fn take_all(
     alloc: Global,
     catalogue: &mut Catalogue,
@@ -93,8 +93,8 @@ fn take_all(
 }
 
 impl Mrc {
-    /// The server that the records tell, under a key of 1 to 64 bytes, at a clock in milliseconds. It knows no OSDs before the DIR
-    /// has told them.
+    /// The server that the records determine, under a key of 1 to 64 bytes, at a clock in milliseconds. It knows no OSDs before
+    /// the DIR has reported them.
     pub fn start(
         alloc: Global,
         key: &[u8],

@@ -11,10 +11,10 @@ use volume_rows::Granting;
 use xt_base::{OutOfMemory, SizeMark};
 use xt_messages::{Capability, MetaAnswer, MetaRefusal};
 
-/// The want of a grant that is only to read.
+/// The `want` of a grant that is only to read.
 const TO_READ: u8 = 1;
 
-/// The want of a grant that is to truncate.
+/// The `want` of a grant that is to truncate.
 pub const TO_TRUNCATE: u8 = 3;
 
 /// What a recorded request is answered: no list, so that it is copied without memory.
@@ -38,7 +38,7 @@ pub struct Settling {
 }
 
 impl Settled {
-    /// The answer as it is told.
+    /// The answer as it is sent.
     pub fn answer(&self) -> MetaAnswer
         ensures { result ≡ answer_of self.now }
     {

@@ -64,7 +64,7 @@ name_of_tree n [] rest tree = absurd tree
 name_of_tree n (r ∷ rs) rest tree =
     ap (λ (p : Path). cons_option (name_in [] (n ∷ p)) (names_in (map (below n) rs ++ rest) [])) tree.at_top ∙ ap (λ (ns : List Name). n ∷ ns) (deeper n rs rest tree.below)
 
--- a name as it is told
+-- a name as it is reported
 abbrev pub name_told : {A : Type 0} → String A × List Row → Name
 name_told kid = string_bytes kid.0
 

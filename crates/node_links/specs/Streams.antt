@@ -3,12 +3,12 @@ use Rattle.std.specs.Prelude.{ℕ, ◌+◌, ◌-◌, ◌≡◌, ◌==◌, Bool, 
 use Rattle.std.specs.List.{list_any}
 use Rattle.xt_base.specs.Faults.{counted}
 
--- These, bytes or datagrams, were taken from the front of what was left. What isn't told stays so.
+-- These, bytes or datagrams, were taken from the front of what was left. What isn't known stays unknown.
 abbrev pub Takes : {A : Type 0} → Option (List A) → Option (List A) → List A → Type 0
 Takes None new taken = new ≡ None
 Takes (Some left) new taken = (rest : List _) × (left ≡ taken ++ rest) × (new ≡ Some rest)
 
--- These bytes are the front of what is left. What isn't told has any.
+-- These bytes are the front of what is left. Where that isn't known, any bytes are.
 abbrev pub IsAhead : Option (List ℕ) → List ℕ → Type 0
 IsAhead None bytes = Unit {0}
 IsAhead (Some left) bytes = (rest : List ℕ) × (left ≡ bytes ++ rest)
@@ -18,7 +18,7 @@ abbrev pub IsAtEnd : Option (List ℕ) → Type 0
 IsAtEnd None = Unit {0}
 IsAtEnd (Some left) = left ≡ []
 
--- These were put after what was held. What isn't told stays so.
+-- These were put after what was held. What isn't known stays unknown.
 abbrev pub Puts : {A : Type 0} → Option (List A) → Option (List A) → List A → Type 0
 Puts None new put = new ≡ None
 Puts (Some held) new put = new ≡ Some (held ++ put)

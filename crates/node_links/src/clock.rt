@@ -12,7 +12,7 @@ pub type Readings = Seq<u64>;
 
 /// A clock that is read in milliseconds.
 pub trait Clock {
-    /// The readings that are to come, where they are told.
+    /// The readings that are to come, where they are known.
     ghost readings: { Self → Option (List ℕ) };
 
     /// How often it couldn't be read.

@@ -2,7 +2,7 @@
 //! and what starts this program again, each with a count of its faults, in memory and real.
 //!
 //! A call fails only where its own object's count rose in it. What is left of a source, what a sink holds, what a link gives
-//! and takes, what a clock reads, what a spawner is called for and which calls fail is told by the forms in memory, and not by
+//! and takes, what a clock reads, what a spawner is called for and which calls fail is known of the forms in memory, and not of
 //! the real ones.
 #![tactic(auto)]
 

@@ -28,10 +28,10 @@ pub enum Got {
 pub trait Link {
     ghost use Rattle.node_links.specs.declared.link.Datagram.{Datagram};
 
-    /// The datagrams that are to come, where they are told.
+    /// The datagrams that are to come, where they are known.
     ghost given: { Self → Option (List Datagram) };
 
-    /// The datagrams that went, where they are told.
+    /// The datagrams that went, where they are known.
     ghost sent: { Self → Option (List Datagram) };
 
     /// How often a bind or a receive has failed.

@@ -9,13 +9,13 @@ use xt_base::{CallList, Failed, Octets, OutOfMemory};
 
 /// A sink for bytes.
 pub trait Sink {
-    /// The bytes that it holds, where they are told.
+    /// The bytes that it holds, where they are known.
     ghost held: { Self → Option (List ℕ) };
 
-    /// How many bytes it has room for in all, where they are told.
+    /// How many bytes it has room for in all, where they are known.
     ghost room: { Self → ℕ };
 
-    /// Whether a coming call is to fail, the next one being 1, where the bytes are told.
+    /// Whether a coming call is to fail, the next one being 1, where the bytes are known.
     ghost fails: { Self → ℕ → Bool };
 
     /// How often the sink has failed.
@@ -36,7 +36,7 @@ pub trait Sink {
         ensures kept { OnErr result (held self.new ≡ held self.old) }
         ensures faults { fault_count self.new ≡
             fault_count_after (is_err result) (fault_count self.old) }
-        // Where the bytes are told, it takes as many as fit, and fails as planned or where there is no room.
+        // Where the bytes are known, it takes as many as fit, and fails as planned or where there is no room.
         ensures most { IfOk result (λ n.
             IfSome (held self.old) (λ bytes. n ≡ fitting (room self.old) bytes piece.now)) }
         ensures plan { IfSome (held self.old)
@@ -110,7 +110,7 @@ impl Sink for MemorySink {
     }
 }
 
-/// The standard output, or another real writer. What it took isn't told.
+/// The standard output, or another real writer. What it took isn't known.
 #[derive(Drop)]
 pub struct StdoutSink<W: Write + Drop> {
     writer: W,

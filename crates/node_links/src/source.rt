@@ -8,16 +8,16 @@ use xt_base::{CallList, Failed, Octets, OutOfMemory};
 
 /// A source of bytes that reads ahead: its bytes are looked at where they lie, and then taken by their number.
 pub trait Source {
-    /// The bytes that are left, where they are told.
+    /// The bytes that are left, where they are known.
     ghost left: { Self → Option (List ℕ) };
 
     /// The bytes that were read ahead.
     ghost ahead: { Self → List ℕ };
 
-    /// How many bytes are read ahead at once, where the bytes are told.
+    /// How many bytes are read ahead at once, where the bytes are known.
     ghost block: { Self → ℕ };
 
-    /// Whether a coming call of `fill` fails, the next one being 1, where the bytes are told.
+    /// Whether a coming call of `fill` fails, the next one being 1, where the bytes are known.
     ghost fails: { Self → ℕ → Bool };
 
     /// How often the source has failed.
@@ -42,7 +42,7 @@ pub trait Source {
         ensures none { OnErr result (ahead self.new ≡ []) }
         ensures faults { fault_count self.new ≡
             fault_count_after (is_err result) (fault_count self.old) }
-        // Where the bytes are told, it reads as many as it can, and fails as planned.
+        // Where the bytes are known, it reads as many as it can, and fails as planned.
         ensures most { OnOk result (IfSome (left self.old)
             (λ bytes. length (ahead self.new) ≡ min (block self.old) (length bytes))) }
         ensures same { block self.new ≡ block self.old }
@@ -134,7 +134,7 @@ impl Source for MemorySource {
     }
 }
 
-/// The standard input, or another real reader. What it gives isn't told.
+/// The standard input, or another real reader. What it gives isn't known.
 #[derive(Drop)]
 pub struct StdinSource<R: Read + Drop> {
     reader: R,

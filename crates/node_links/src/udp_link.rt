@@ -10,7 +10,7 @@ use std::os::fd::AsRawFd;
 use std::time::Duration;
 use xt_base::{Address, Failed};
 
-/// A UDP socket. What it gives and takes isn't told.
+/// A UDP socket. What it gives and takes isn't known.
 #[derive(Drop)]
 pub struct UdpLink<R: Net> {
     rt: R,

@@ -49,8 +49,8 @@ fn send_parts<L: Link>(link: &mut L, to: &Address, parts: &[Octets]) -> bool
 }
 
 impl Sender {
-    /// Sends a message to a node that has an address, and tells whether each of its parts was taken. Where no number is left,
-    /// there is want of memory.
+    /// Sends a message to a node that has an address, and reports whether each of its parts was taken. Where no number is left,
+    /// the error is `OutOfMemory`.
     pub fn post<L: Link>(
         &mut self,
         alloc: Global,

@@ -25,6 +25,6 @@ mod sockets;
 #[cfg(test)]
 mod stripes;
 
-/// What is told where a test stops that can't go on.
+/// The message where a test stops that can't go on.
 #[cfg(test)]
 const OTHERWISE: &str = "a call answers otherwise";

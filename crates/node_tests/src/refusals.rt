@@ -1,5 +1,5 @@
-//! That a disk that isn't loaded, and a record with no room, are told as such, and not as want of memory; and that a hull in memory
-//! keeps a record. No run of the program comes to these.
+//! That a disk that isn't loaded, and a record with no room, are reported as such, and not as out of memory; and that a hull in
+//! memory keeps a record. No run of the program comes to these.
 
 use crate::OTHERWISE;
 use crate::journals::{LIMIT, ONE, append, load};
@@ -19,7 +19,7 @@ fn disk(rt: &impl Abort, alloc: Global, bytes: &[u8]) -> MemoryDisk {
     MemoryDisk::new(alloc, bytes, CallList::new(alloc), None)
 }
 
-/// Whether the journal of a disk isn't loaded, for another reason than want of memory.
+/// Whether the journal of a disk isn't loaded, for another reason than out of memory.
 fn is_refused<D: Disk>(alloc: Global, disk: D) -> bool {
     match load(alloc, disk, LIMIT) {
         Ok(_) | Err(LoadErr::OutOfMemory { .. }) => false,
@@ -54,7 +54,7 @@ fn a_journal_is_full(rt: HostRuntime) {
     assert!(rt; is_full(rt.alloc(), disk(&rt, rt.alloc(), &ONE), 40));
 }
 
-/// Whether the payload of a journal is told to be no record.
+/// Whether the payload of a journal is reported as no record.
 fn is_bad<D: Disk>(alloc: Global, disk: D) -> bool {
     let Ok((journal, payloads)) = Journal::load(alloc, disk, LIMIT) else {
         return false;

@@ -21,7 +21,7 @@ fn name(rt: &impl Abort, alloc: Global, text: &str) -> Name {
     Name::of(alloc, text).expect(rt, OTHERWISE)
 }
 
-/// Node 1 is registered anew, under the version that it has.
+/// Node 1 is registered again, under the version that it has.
 fn register(rt: &impl Abort, alloc: Global, dir: &mut Dir, number: u64) {
     let request = RegistryReq::Set {
         node: NodeId(1),
@@ -38,7 +38,7 @@ fn register(rt: &impl Abort, alloc: Global, dir: &mut Dir, number: u64) {
     drop(dir.step(alloc, &event).expect(rt, OTHERWISE));
 }
 
-/// The MRC wakes, and is told of one OSD.
+/// The MRC wakes, and hears of one OSD.
 fn tell(rt: &impl Abort, alloc: Global, mrc: &mut Mrc) {
     let row = RegistryRow {
         node: NodeId(1),

@@ -9,7 +9,7 @@ use Rattle.xt_protocol.specs.Folds.{body_of}
 use Rattle.xt_protocol.specs.Stamps.{is_version, comes_before, has_version}
 use Rattle.object_versions.specs.Rising.{rises}
 
--- the held bodies of a file that are of its head, of what its primary stands on, or staged
+-- the held bodies of a file that are of its head, of what its primary depends on, or staged
 abbrev pub needed_among : FileId → List ObjectVersion → List ObjectVersion → List ObjectVersion → List ObjectVersion → List KeepBody
 needed_among file head led staged held =
     map (λ v. record { file = file; object = v.object; version = v.version })

@@ -15,7 +15,7 @@ fault_in (Err error.NoSuchVersion) = None
 fault_in (Err error.OutOfMemory) = None
 fault_in (Ok bytes) = None
 
--- What a step tells that failed for a body: reading failed, so often in all; or no record put that body.
+-- What a step reports that failed for a body: reading failed, so often in all; or no record put that body.
 abbrev pub IsTold : List Record → ℕ → ℕ → StepErr → Type 0
 IsTold records before after (step.BodyFault count) = (count ≡ after) × Rose before after
 IsTold records before after (step.BodyLost file object version) = (after ≡ before) × (body_kept records file object version ≡ None)

@@ -24,12 +24,12 @@ is_object_before a b = nat_lt a.object b.object
 abbrev pub is_client_before : Session → Session → Bool
 is_client_before a b = nat_lt a.client.0 b.client.0
 
--- the version is held, and stands there; or it belongs there
+-- the version is held, and is there; or it belongs there
 abbrev pub IsHeldPlace : List ObjectVersion → ObjectVersion → Result ℕ ℕ → Type 0
 IsHeldPlace held v (Ok place) = (place < length held) × (has_version held v ≡ true) × (with_held held v ≡ held)
 IsHeldPlace held v (Err place) = (place ≤ length held) × (has_version held v ≡ false) × (with_held held v ≡ insert held place v)
 
--- the version of the object stands there; or it belongs there
+-- the version of the object is there; or it belongs there
 abbrev pub IsVersionPlace : List ObjectVersion → ℕ → Result ℕ ℕ → Type 0
 IsVersionPlace rows object (Ok place) =
     (place < length rows)
@@ -40,7 +40,7 @@ IsVersionPlace rows object (Err place) =
     × (version_of rows object ≡ None)
     × ((row : ObjectVersion) → row.object ≡ object → with_version rows object row.version ≡ insert rows place row)
 
--- the session of the client stands there; or it belongs there
+-- the session of the client is there; or it belongs there
 abbrev pub IsSessionPlace : List Session → ℕ → Result ℕ ℕ → Type 0
 IsSessionPlace rows client (Ok place) =
     (place < length rows)

@@ -48,7 +48,7 @@ fn lost(file: &FileId, object: u64, version: &Stamp) -> StepErr
     }
 }
 
-/// The body as a step sees it. One that no record put is told as lost, and never as an empty one.
+/// The body as a step sees it. One that no record put is reported as lost, and never as an empty one.
 pub fn seen<B: Bodies>(
     bodies: &mut B,
     alloc: Global,

@@ -26,7 +26,7 @@ needed_in awake slots = flat_map (needed_of awake.node) (map (state_of awake) sl
 abbrev AreSound : Awake → List Slot → Type 0
 AreSound awake slots = AllByRecursion (IsSoundSlot awake) slots
 
--- what the slots that are left need stands after what the others have told
+-- what the slots that are left need comes after what the others have reported
 pub record KeptSoFar (slots left : List Slot) (before so_far : List KeepBody) : Type 0 where
   pub rest : (awake : Awake) → AreSound awake slots → AreSound awake left × (so_far ++ needed_in awake left ≡ before ++ needed_in awake slots)
 

@@ -68,7 +68,7 @@ pub fn is_sealed(
     }
 }
 
-/// Whether a message ends an OSD with this key: without a key none does.
+/// Whether a message ends an OSD with this key. Without a key no message does.
 pub fn stops(key: &Option<Octets>, payload: &Payload) -> Result<bool, OutOfMemory>
     requires { IfSome key.now FitsKey }
     ensures { result ≡ Ok (stops_by key.now payload.now) }

@@ -125,8 +125,8 @@ impl Osd {
         })
     }
 
-    /// The step on an event at a reading of the clock, in milliseconds. After an error, for want of memory or a body that can't be
-    /// read, the OSD isn't to be used again; it has no files then.
+    /// The step on an event at a reading of the clock, in milliseconds. After an error, since memory ran out or a body couldn't
+    /// be read, the OSD isn't to be used again; it has no files then.
     pub fn step<B: Bodies>(
         &mut self,
         bodies: &mut B,
@@ -184,7 +184,7 @@ impl Osd {
         self.node
     }
 
-    /// Whether a message ends the served OSD: a Stop with the right tag. Without a key none does.
+    /// Whether a message ends the served OSD: a Stop with the right tag. Without a key no message does.
     pub fn stops(&self, msg: &Msg) -> Result<bool, OutOfMemory>
         ensures { result ≡ Ok (stops_by self.now.key msg.now.payload) }
     {

@@ -31,7 +31,7 @@ use xt_protocol::{Turned, extend, message, quiet, sends_one};
 /// The kind of an OSD in the registry.
 const OSD: u8 = 1;
 
-/// The files that records tell of, as an OSD meets them at its start: all rest.
+/// The files that the records name, as an OSD meets them at its start: all rest.
 pub fn met_from(alloc: Global, rows: FileTable) -> Result<MetFiles, OutOfMemory>
     requires { AreRows rows }
     ensures { IfOk result (λ met. met.slots.entries ≡ slots_from rows) }
@@ -111,7 +111,7 @@ pub fn take<B: Bodies>(
     slot.take(alloc, awake, bodies, now, sealed, msg)
 }
 
-/// A Wake at the next file: what it gives stands after what others gave.
+/// A Wake at the next file: what it gives comes after what others gave.
 fn wake_more(alloc: Global, slot: &mut Slot, woken: &mut Woken, now: u64) -> Result<(), OutOfMemory>
     requires { now < 2 ^ 62 }
     ensures { OnOk result (WakesMore now slot.old slot.new woken.old woken.new) }
@@ -142,7 +142,7 @@ fn stay_busy(busy: &mut BTreeSet<FileId>, file: &FileId, rests: bool) -> Result<
     Ok(())
 }
 
-/// A Wake at a file, if it has a slot: what it gives stands after what others gave, and the file stays busy unless it rests then.
+/// A Wake at a file, if it has a slot: what it gives comes after what others gave, and the file stays busy unless it rests then.
 fn wake_at(
     alloc: Global,
     slots: &mut BTreeMap<FileId, Slot>,
@@ -165,7 +165,7 @@ fn wake_at(
     }
 }
 
-/// A Wake at each of these files, in order: what each gives stands after what others gave. Those that don't rest afterwards are
+/// A Wake at each of these files, in order: what each gives comes after what others gave. Those that don't rest afterwards are
 /// busy then.
 fn wake_all(
     alloc: Global,

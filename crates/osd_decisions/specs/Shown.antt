@@ -1,4 +1,4 @@
--- how a write stands, as the code tells it
+-- how a write stands, as the code reports it
 use Rattle.xt_protocol.specs.Writes as rows
 use Rattle.osd_decisions.specs.declared.judging.WriteStanding.{WriteStanding}
 use Rattle.osd_decisions.specs.declared.judging.WriteStanding.TheVariants as standing

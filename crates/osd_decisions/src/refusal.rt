@@ -46,7 +46,7 @@ fn same_list(a: &Location, b: &Location) -> bool
         && same_nodes(a.members.as_slice(), b.members.as_slice())
 }
 
-/// What an ask is told whose list is older than the stored one, or is another one.
+/// The answer to an ask whose list is older than the stored one, or is another one.
 fn list_against(stored: &Option<Location>, location: &Location) -> Option<Reply>
     ensures { result ≡ rows.list_against stored.now location.now }
 {
@@ -74,7 +74,7 @@ fn leaves_object(stripe: u32, op: &Op) -> bool
     }
 }
 
-/// What an ask is told that is refused before any row, by the first test that fails: its capability, where `sealed` says
+/// The answer to an ask that is refused before any row, by the first test that fails: its capability, where `sealed` says
 /// whether its tag is the key's; its list, against the stored one; whether this node is in it; its range.
 #[tactic(auto, unfolding(xt_protocol::specs::AskRows::refusal_of))]
 pub fn refusal_of(
@@ -107,8 +107,9 @@ pub fn refusal_of(
     None
 }
 
-/// What an ask on a striped file is told that is refused before any row, by the first test that fails: its capability, where `sealed`
-/// says whether its tag is the key's; its range; its list, where one is stored, since that is done for replicated files alone.
+/// The answer to an ask on a striped file that is refused before any row, by the first test that fails: its capability, where
+/// `sealed` says whether its tag is the key's; its range; its list, where one is stored, since that is done for replicated files
+/// alone.
 #[tactic(auto, unfolding(xt_protocol::specs::StripedRows::striped_refusal))]
 pub fn striped_refusal_of(
     now: u64,

@@ -223,7 +223,7 @@ pub hears_counted : (members : List NodeId) (g : Ground) (p : PrimaryState) (fro
 unfolding hears
 hears_counted members g p from content counted = heard_in members g p.learnt p.tenure from content counted
 
--- a primary that was told a message, whatever came of it
+-- a primary that got a message, whatever came of it
 pub take_counted : {E : Type 0} (members : List NodeId) (g : Ground) (old new : PrimaryView) (from : NodeId) (content : Payload) (r : Result Turned E)
     → IsCounted members old.state.tenure
     → IfOk r (λ led. new ≡ record old { state = (hears g old.state from content).primary }) → OnErr r (new ≡ record old { state = idle old.state })

@@ -36,7 +36,7 @@ let_row site s id capability asked kept location ask is-kept is-list is-ask =
     ∙ ap (λ (l : Option Location). behind_it kept (ask_rows site (listed s site.now l) made)) (sym is-list)
     ∙ ap (λ (a : WaitingAsk). behind_it kept (ask_rows site (listed s site.now location) a)) (sym is-ask)
 
--- an ask by what it is told before any row
+-- an ask by what it is answered before any row
 pub handled : (site : Site) (s : FileState) (id : OpId) (capability : Capability) (asked : Op) (o : Option Reply) → o ≡ refusal_of site s.kept.location capability asked
     → ask_handled site s id capability asked ≡ ask_let_in site s id capability asked o
 unfolding ask_handled

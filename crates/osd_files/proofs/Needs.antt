@@ -1,4 +1,4 @@
--- the versions that a primary needs, by the heads that it stands on
+-- the versions that a primary needs, by the heads that it depends on
 use Rattle.std.proofs.Common.{◌≡◌, ap, refl, List, Option, Some, None}
 use Rattle.xt_base.specs.declared.ids.NodeId.{NodeId}
 use Rattle.xt_messages.specs.declared.file.FileHead.{FileHead}

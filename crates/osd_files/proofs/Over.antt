@@ -88,7 +88,7 @@ deadlines_by : (site : Site) (s : FileState) (tenure : Option Tenure) → deadli
 deadlines_by site s None = refl
 deadlines_by site s (Some t) = refl
 
--- by what the asks that are due are told
+-- by the answer to the asks that are due
 pub deadlines_row : (now : ℕ) (old new : FileView) (o : Option Reply) (turned : Turned) → o ≡ no_majority old.state.primary.tenure
     → IsRow (λ site s. told_under site s o) now old new turned → IsRow (λ site s. deadlines_under site s s.primary.tenure) now old new turned
 deadlines_row now old new o turned is row =

@@ -147,7 +147,7 @@ pub when_false : {A : Type 0} (b : Bool) (x y : A) → b ≡ false → cond b x 
 when_false true x y is = absurd cc
 when_false false x y is = refl
 
--- what an answer to a round makes of a file, by what the lease tells
+-- what an answer to a round makes of a file, by what the lease reports
 pub answered : (site : Site) (s : FileState) (from : NodeId) (content : Payload) (l : LeaseState) (end : ℕ) (news : LeaseNews)
     → l ≡ (on_answer s.lease site.now from content).state → end ≡ end_after_answer site s from content → news ≡ (on_answer s.lease site.now from content).news
     → answer_comes site s from content ≡ lease_news site (record s { lease = l; last_end = end }) news

@@ -87,7 +87,7 @@ step_row now test body from content old mid new overdue rest turned first second
           ∙ ap (λ (t : Turned). let made : FileStep = record { state = new.state; turned = t } in made) (sym is);
     }
 
--- a message that was told by its kind
+-- a message that was recognized by its kind
 pub told_row : (content made : Payload) (site : Site) (from : NodeId) (old new : FileView) (turned : Turned) → content ≡ made
     → IsStep (λ site s. message_comes site s from made) site old new turned → IsStep (λ site s. message_comes site s from content) site old new turned
 told_row content made site from old new turned is row =

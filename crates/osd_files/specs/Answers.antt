@@ -1,4 +1,4 @@
--- what a register and a lease tell, in the rows' terms
+-- what a register and a lease report, in the rows' terms
 use Rattle.std.specs.Prelude.{ℕ, Option, [], ◌∷◌, IsTrue, is_some}
 use Rattle.xt_base.specs.declared.ids.NodeId.{NodeId}
 use Rattle.xt_base.specs.declared.ids.FileId.{FileId}

@@ -1,4 +1,4 @@
--- how many have answered a primary, and what asks that are due are told of it
+-- how many have answered a primary, and how asks that are due are answered then
 use Rattle.std.specs.Prelude.{ℕ, Option, Some, None, List, length, ◌≤◌, ◌/◌, ◌+◌}
 use Rattle.std.specs.List.{count_by}
 use Rattle.xt_base.specs.MemberList.{has_node}
@@ -38,7 +38,7 @@ abbrev pub IsCountedIn : Option Listed → Type 0
 IsCountedIn None = Unit {0}
 IsCountedIn (Some listed) = IsCounted listed.location.members listed.primary.state.tenure
 
--- what asks that are due are told, where there is a tenure
+-- the answer to asks that are due, where there is a tenure
 abbrev pub no_majority : Option Tenure → Option Reply
 no_majority None = None
 no_majority (Some t) = Some (reply.NoMajority (have_in t.peers t.progress) (majority_among t.peers))
@@ -51,7 +51,7 @@ heard_at phase.Fetching = 0
 heard_at (phase.Installing have) = have
 heard_at (phase.Active issued have) = have
 
--- what asks that are due are told among so many members
+-- the answer to asks that are due, among so many members
 abbrev pub no_majority_at : ℕ → Phase → Option Reply
 no_majority_at members phase.Idle = None
 no_majority_at members (phase.Gathering have) = Some (reply.NoMajority have (members / 2 + 1))

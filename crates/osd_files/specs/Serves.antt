@@ -14,7 +14,7 @@ use Rattle.xt_protocol.specs.FileStates.{stripe_of}
 use Rattle.replica_primary.specs.Written.{ground}
 use Rattle.osd_files.specs.Views.{FileView}
 
--- what the file's primary stands on, which sees the bodies of these records, by this head and these held versions of its replica
+-- the ground of the file's primary over the bodies of these records, by this head and these held versions of its replica
 abbrev pub ground_at : FileView → List Record → FileHead → List ObjectVersion → Ground
 ground_at v records own held = ground (record { node = v.awake.node; file = v.state.kept.file; stripe = stripe_of v.state.kept.location }) records own held
 

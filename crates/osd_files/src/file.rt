@@ -62,7 +62,7 @@ impl OsdFile {
     }
 
     /// A message that concerns the file, at the clock `now`: what is overdue, and then the message's row. `sealed` says whether
-    /// the tag of an ask's capability is the key's. After an error, for want of memory or a body that can't be read, the file
+    /// the tag of an ask's capability is the key's. After an error, since memory ran out or a body couldn't be read, the file
     /// isn't to be used again; it has no lease then, and no asks.
     pub fn take<B: Bodies>(
         &mut self,
@@ -88,8 +88,8 @@ impl OsdFile {
         }
     }
 
-    /// A Wake at the clock `now`: what is overdue, and then what a wake gives, apart, since an OSD tells the first of all its files
-    /// before the second. After an error, as for `take`.
+    /// A Wake at the clock `now`: what is overdue, and then what a wake gives, apart, since an OSD reports the first of all its
+    /// files before the second. After an error, as for `take`.
     pub fn wake(&mut self, now: u64) -> Result<Woken, OutOfMemory>
         requires { now < 2 ^ 62 }
         ensures { IfOk result (λ woken. IsWoken now self.old self.new woken) }

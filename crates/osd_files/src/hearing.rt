@@ -84,7 +84,7 @@ fn acts(replica: &mut Replica, content: &Payload) -> Result<Acted, OutOfMemory>
     }
 }
 
-/// The same. Where it made a record, the searches for what peers lack begin anew.
+/// The same. Where it made a record, the searches for what peers lack begin again.
 fn acts_anew(
     replica: &mut Replica,
     searches: &mut Searches,

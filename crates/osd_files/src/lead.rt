@@ -32,7 +32,7 @@ use xt_base::{FileId, NodeId, OpId, OutOfMemory};
 use xt_messages::{FileHead, HeldSet, Location, ObjectVersion, Op, Payload, Record, Reply};
 use xt_protocol::{Turned, quiet};
 
-/// Where a file is, and the primary that stands on that.
+/// Where a file is, and the primary that depends on that.
 #[derive(Drop)]
 pub struct Listed {
     location: Location,
@@ -90,7 +90,7 @@ fn too_few(have: usize, members: usize) -> Reply
     }
 }
 
-/// What asks that are due are told of a primary that is so far, among so many members; none while it is idle.
+/// The answer to asks that are due at a primary that is so far, among so many members; none while it is idle.
 fn no_majority_at(members: usize, phase: Phase) -> Option<Reply>
     requires members { members ≤ 9 }
     requires heard { heard_at phase ≤ 9 }
@@ -210,7 +210,7 @@ impl Lead {
         }
     }
 
-    /// What asks that are due are told: how many have answered what the primary waits for, and how many it needs. None while it
+    /// The answer to asks that are due: how many have answered what the primary waits for, and how many it needs. None while it
     /// is idle.
     pub fn no_majority(&self) -> Option<Reply>
         ensures { result ≡ no_majority self.now.primary.tenure }

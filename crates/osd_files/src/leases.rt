@@ -115,7 +115,7 @@ fn write_comes(
     answers_to_write(alloc, node, id, from, ballot, boot, answer)
 }
 
-/// The asks that wait are told this.
+/// The asks that wait get this answer.
 fn waiting_told(file: &mut Parts, reply: &Reply) -> Result<Turned, OutOfMemory>
     ensures { IfOk result (λ turned. (now : ℕ) →
         IsRow (λ site s. rows.waiting_told site s reply.now) now (shown file.old) (shown file.new)

@@ -2,8 +2,8 @@
 //! and how it forgets the others.
 //!
 //! `OsdFile` does exactly what the rows of `xt_protocol` say (`step_of_file`, `expired`, `wake_of_file`) on the state that contracts
-//! see, which is sound at every moment. Want of memory, and a body that can't be read, are all that a call may answer beside
-//! that; then the file isn't to be used again. Clocks are in milliseconds, below 2^62. A primary acts only in a turn of the lease.
+//! see, which is sound at every moment. A call fails only where memory runs out or a body can't be read; then the file isn't to be
+//! used again. Clocks are in milliseconds, below 2^62. A primary acts only in a turn of the lease.
 #![tactic(auto)]
 
 mod asks;

@@ -10,7 +10,7 @@ use xt_base::OutOfMemory;
 use xt_messages::Reply;
 use xt_protocol::{Turned, quiet, sends};
 
-/// All asks are told that there is no lease: the issued one unless it was told, then those that wait.
+/// All asks get the answer that there is no lease: the issued one unless it was answered already, then those that wait.
 fn no_lease_for_all(file: &mut Parts) -> Result<Turned, OutOfMemory>
     ensures { IfOk result (λ turned. (now : ℕ) →
         IsRow rows.no_lease_for_all now (shown file.old) (shown file.new) turned) }
@@ -31,7 +31,7 @@ fn lease_lapses(file: &mut Parts) -> Result<Turned, OutOfMemory>
     no_lease_for_all(file)
 }
 
-/// Deadlines come: the asks that are due are told this, those that wait first; the issued write stays.
+/// Deadlines come: the asks that are due get this answer, those that wait first; the issued write stays.
 fn deadlines_come(file: &mut Parts, now: u64, reply: &Reply) -> Result<Turned, OutOfMemory>
     ensures { IfOk result (λ turned.
         IsRow (λ site s. rows.deadlines_come site s reply.now) now (shown file.old) (shown file.new)

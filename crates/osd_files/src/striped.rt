@@ -37,7 +37,7 @@ fn to_client(file: &FileId, id: OpId, acted: PlainActed) -> Acted
     Acted { rec, answer }
 }
 
-/// An ask that is refused is told so, and nothing is kept.
+/// An ask that is refused gets this reply, and nothing is kept.
 fn refused(reply: Reply) -> PlainActed
     ensures { result ≡ plain.only reply }
 {

@@ -42,7 +42,7 @@ use Rattle.osd_invariants.specs.Keeping.{FollowsRecord}
 abbrev IsQuiet : FileRow → FileStep → Type 0
 IsQuiet row step = (step.turned.rec ≡ None) × (step.state.kept ≡ row)
 
--- of two branches each is so
+-- a property of the branch that is taken, where both have it
 either : (P : FileStep → Type 0) (b : Bool) {x y : FileStep} → P x → P y → P (cond b x y)
 either P true p q = p
 either P false p q = q

@@ -2,7 +2,7 @@
 //!
 //! Each record of a step is in its place after those that it runs on, the messages are within their limits, and after the step the
 //! OSD runs on the records with that one. So it does from its start on. A node that serves an OSD, and keeps each record before it
-//! sends the messages of the step, can be refused for want of room alone. Definitions and theorems alone; nothing runs here.
+//! sends the messages of the step, can be refused only where there is no room. Definitions and theorems alone; nothing runs here.
 #![tactic(auto)]
 
 ghost use Rattle.std.specs.Prelude.{◌<◌, ◌^◌, ◌++◌, ◌∷◌, [], ℕ, Bool, List};

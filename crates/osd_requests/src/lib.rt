@@ -1,7 +1,7 @@
 //! The asks of a file that aren't answered: those that wait, and that of the issued update.
 //!
-//! Each call equals its definition in `xt_protocol`. Want of memory is the one thing that a call may answer beside that, and then
-//! the asks are as they were. Clocks and deadlines are in milliseconds.
+//! Each call equals its definition in `xt_protocol`, or fails where memory runs out, and then the asks are as they were. Clocks
+//! and deadlines are in milliseconds.
 #![tactic(auto)]
 
 mod open;

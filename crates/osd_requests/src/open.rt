@@ -29,7 +29,7 @@ impl Model for OpenAsks {
     ghost view = { λ a. record { waiting = a.waiting; issued = a.issued } };
 }
 
-/// Puts the reply that tells the ask of this id something after the messages.
+/// Adds the reply to the ask of this id, after the messages.
 fn tell(
     alloc: Global,
     outs: &mut Msgs,
@@ -43,7 +43,7 @@ fn tell(
     outs.push(reply_to(node, file, id, reply.copy(alloc)?))
 }
 
-/// Puts the replies that tell these asks something after the messages.
+/// Adds the replies to these asks, after the messages.
 fn tell_each(
     alloc: Global,
     outs: &mut Msgs,
@@ -61,7 +61,7 @@ fn tell_each(
     Ok(())
 }
 
-/// Puts the reply that tells the issued ask something after the messages, unless it was told before.
+/// Adds the reply to the issued ask, after the messages, unless it was answered before.
 fn tell_untold(
     alloc: Global,
     outs: &mut Msgs,
@@ -81,7 +81,7 @@ fn tell_untold(
     Ok(())
 }
 
-/// Puts the replies that tell those of these asks something whose deadline has come after the messages.
+/// Adds the replies to those of these asks whose deadline has come, after the messages.
 fn tell_due_of(
     alloc: Global,
     outs: &mut Msgs,
@@ -119,7 +119,7 @@ fn is_issued(issued: &Option<IssuedAsk>, id: OpId) -> bool
     }
 }
 
-/// Puts the reply that tells the issued ask something after the messages, where its deadline has come and it wasn't told.
+/// Adds the reply to the issued ask, after the messages, where its deadline has come and it wasn't answered.
 fn tell_issued_due(
     alloc: Global,
     outs: &mut Msgs,
@@ -147,7 +147,7 @@ fn drop_due(waiting: &mut Seq<WaitingAsk>, now: u64)
     waiting.items.retain(|ask| !(ask.deadline <= now));
 }
 
-/// The issued ask counts as told where its deadline has come.
+/// The issued ask counts as answered where its deadline has come.
 fn mark_due(issued: &mut Option<IssuedAsk>, now: u64)
     ensures { issued.new ≡ overdue.issued_due now issued.old }
 {
@@ -202,7 +202,7 @@ impl OpenAsks {
         self.waiting.push(ask)
     }
 
-    /// An update was issued for this ask, whose client was told nothing yet.
+    /// An update was issued for this ask, whose client has got no answer yet.
     pub fn issue(&mut self, ask: WaitingAsk)
         ensures { self.new ≡
             record self.old { issued = Some (record { ask = ask; told = false }) } }
@@ -239,7 +239,7 @@ impl OpenAsks {
         }
     }
 
-    /// Tells the asks that wait, in order. None waits any more.
+    /// Answers the asks that wait, in order. None waits any more.
     pub fn tell_waiting(
         &mut self,
         alloc: Global,
@@ -258,7 +258,7 @@ impl OpenAsks {
         Ok(outs)
     }
 
-    /// Tells all asks: the issued one, unless it was told, and then those that wait, in order. None is left.
+    /// Answers all asks: the issued one, unless it was answered, and then those that wait, in order. None is left.
     pub fn tell_all(
         &mut self,
         alloc: Global,
@@ -280,8 +280,8 @@ impl OpenAsks {
         Ok(outs)
     }
 
-    /// Tells the asks whose deadline has come by the clock `now`: those that wait, in order, which are gone then; and the
-    /// issued one, unless it was told before, which stays.
+    /// Answers the asks whose deadline has come by the clock `now`: those that wait, in order, which are gone then; and the
+    /// issued one, unless it was answered before, which stays.
     pub fn tell_due(
         &mut self,
         alloc: Global,

@@ -328,7 +328,7 @@ module _ (sealed : Capability → Bool) (reading : ℕ) where
             subst (λ (ms : List Msg). (goes_on sealed reading moves (handles_first sealed reading w ms)).own ≡ []) (sym own)
             (more (handles sealed (record w { own = rest }) reading (event.Deliver m)) less.j (own_step w m rest h own) less.chain (lower less.j k (handled moves) less.less low))
 
--- ---- where an OSD may come to
+-- ---- what an OSD can reach
 
 may_outside : (w : Working) (h : Holds w) (happens : Event) → IsOutside w.osd.started.node happens → MayCome w h happens
 may_outside w h (event.Deliver m) outside = λ same. absurd (differ (m.from.0) (w.osd.started.node.0) outside same)

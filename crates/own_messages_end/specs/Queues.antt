@@ -68,7 +68,7 @@ abbrev pub IsOutside : NodeId → Event → Type 0
 IsOutside node (event.Deliver m) = (m.from.0 == node.0) ≡ false
 IsOutside node _ = Unit {0}
 
--- Where an OSD may come to: it starts from records that fit, and keeps its boot; then events come to it from outside, whatever they
+-- What an OSD can reach: it starts from records that fit, and keeps its boot; then events come to it from outside, whatever they
 -- hold within the limits, each when it has no message to itself left; it handles its messages to itself; and it forgets at any time.
 pub data Reaches (sealed : Capability → Bool) : Working → Type 0 where
   starts : (records : List Record) (silent : Silent) → FitsKept records → silent.node.0 < 2 ^ 32 → silent.boot.0 < 2 ^ 62

@@ -105,7 +105,7 @@ told_low : (told : Option Payload) → IsLeaseOf 4 told → lease_of told ≤ 4
 told_low None is = omega arith
 told_low (Some content) is = is.1
 
--- What one message of the lease and one of the primary may come to.
+-- What one message of the lease and one of the primary can weigh in all.
 pub file_low : (n : NodeId) (s : FileState) (told sent : Option Payload) → FileStands n s → FileSmall s → IsLeaseOf 4 told → chain_weight n s sent + lease_of told ≤ OWN
 file_low n s told None stands small is =
     let few = stands.few in

@@ -140,7 +140,7 @@ leaves n s step stands kept tenure seats few frees holds =
     led (Some content) (inl is) = inl (frees is)
     led (Some content) (inr is) = inr (holds is.0, ap (λ (o : Option Tenure). is_some o) tenure ∙ is.1)
 
--- ---- what is told to clients
+-- ---- what clients are answered
 
 tell_mine : (n : NodeId) (file : FileId) (waiting : List WaitingAsk) (answer : Reply) → ((w : WaitingAsk) → Has w waiting → IsApart n w.id) → to_itself n (tells_each n file waiting answer) ≡ []
 tell_mine n file [] answer apart = refl

@@ -43,7 +43,7 @@ burden n (Some content) row o asks = epoch_left row o + 2 * asks_left asks + ran
 burden n None row None asks = 6 + 2 * asks_left asks
 burden n None row (Some t) asks = 0
 
--- what the primary and the asks owe
+-- what must hold of the primary and the asks
 pub record Followed (n : NodeId) (row : FileRow) (asks : Asks) (Own : Type 0) (limit : ℕ) (s : Served) : Type 0 where
   pub head : HeadStands (kept_after row s.turned.rec).head
   pub moves : Moves row.head (kept_after row s.turned.rec).head

@@ -110,7 +110,7 @@ staged_head row file object version bytes = at (has_version row.held (body_of ob
 
 module _ (place : Place) (row : FileRow) (its : place.file ≡ row.file) (body : Body) (learnt : ℕ) (t : Tenure) (from : NodeId) (head_stands : HeadStands row.head) (stands : TenureStands place.node row.head t)
     (apart : are_distinct (nodes_of t.peers) ≡ true) (others : ProgressIs (IsApart place.node) t.progress) where
-  -- how much may come of a message of the own node
+  -- how much can follow from a message of the own node
   abbrev pub limit : Payload → ℕ
   limit content = epoch_left row (Some t) + rank (stand_of place.node row (Some t)) content
 

@@ -45,7 +45,7 @@ use Rattle.own_messages_wait.proofs.Following.{burden, Followed, follow, with_as
 use Rattle.own_messages_wait.proofs.Leases.{IfSeated, IsFree, IsLeaseOf, IsOver, IsWon, NewsFits, WritesBehind, answer_fits, one_write}
 use Rattle.own_messages_wait.proofs.Files.{FileStands, chain_weight, IsLed, IfLed, none_left, Settles, leaves, tells_mine}
 
--- ---- what a step owes
+-- ---- what must hold of a step
 
 abbrev pub lease_of : Option Payload → ℕ
 lease_of None = 0
@@ -218,7 +218,7 @@ module _ (site : Site) (s : FileState) (from : NodeId) (stands : FileStands site
 
   -- ---- answers to the round
 
-  -- nothing is told to the own node
+  -- nothing is sent to the own node
   quiet_comes : (content : Payload) (step : FileStep) → is_lease content ≡ true → 1 ≤ lease_rank content → Settles site.node s step → to_itself site.node step.turned.outs ≡ [] → Comes site.node from content s step
   unfolding settled_gives
   quiet_comes content step is_one one q outs =

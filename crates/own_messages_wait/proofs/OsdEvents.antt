@@ -40,7 +40,7 @@ IsOwn s (event.Deliver msg) = msg.from.0 ≡ s.started.node.0
 IsOwn s event.Wake = ⊥
 IsOwn s (event.Call call) = ⊥
 
--- what an event at an OSD owes
+-- what must hold of an event at an OSD
 pub record OsdAfter (s : OsdState) (happens : Event) (step : OsdStep) : Type 0 where
   pub started : step.osd.started ≡ s.started
   pub stands : (f : FileState) → Has f step.osd.files → FileStands s.started.node f × FileSmall f

@@ -37,9 +37,9 @@ use Rattle.own_messages_wait.proofs.Moves.{Moves, moves_none, promise_moves, IsM
 use Rattle.own_messages_wait.proofs.Rows.{six_if}
 use Rattle.own_messages_wait.proofs.Rows.{three_if, four_if}
 
--- ---- what a row of the replica owes
+-- ---- what must hold of a row of the replica
 
--- less may come of the answer than of the message
+-- less can follow from the answer than from the message
 abbrev pub IfLess : NodeId → FileRow → FileRow → Payload → Option Payload → Type 0
 IfLess n row next content None = Unit {0}
 IfLess n row next content (Some answer) = (o : Option Tenure) → epoch_left next o + rank (stand_of n next o) answer + 1 ≤ epoch_left row o + rank (stand_of n row o) content

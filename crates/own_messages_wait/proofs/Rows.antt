@@ -1,4 +1,4 @@
--- what a row of the primary leaves of its own node, sends to it, and how much may come of that
+-- what a row of the primary leaves of its own node, sends to it, and how much can follow from that
 use Rattle.std.proofs.Common.{◌≡◌, ℕ, ◌≤◌, ◌+◌, ◌*◌, Bool, true, false, List, [], ◌∷◌, ◌++◌, map, refl, sym, ap, subst, ◌∙◌, arith, Option, Some, None, is_some}
 use Rattle.std.specs.Prelude.{◌&&◌, not, cond, ◌==◌, nat_lt, nat_le}
 use Rattle.std.proofs.lemmas.Bool.{eqb-true}
@@ -70,8 +70,8 @@ three_if b = cond b 1 3
 abbrev pub four_if : Bool → ℕ
 four_if b = cond b 2 4
 
--- Behind a row that doesn't make the primary ready less is left than this, where the message came from the own node. Behind one that
--- does nothing is sent to it, and an update may follow.
+-- After a row that doesn't make the primary ready less is left than this, where the message came from the own node. After one that
+-- does, nothing is sent to it, and an update may follow.
 pub data Next (n : NodeId) (row : FileRow) (before : Option Tenure) (Own : Type 0) (limit : ℕ) (led : Led) (o : Option Payload) : Type 0 where
   plain : is_new before led ≡ false → (Own → left n o (row_then row led) led.primary.tenure + 1 ≤ limit) → Next n row before Own limit led o
   readied : is_new before led ≡ true → led.turned.rec ≡ None → o ≡ None → (Own → epoch_left (row_then row led) led.primary.tenure + 3 ≤ limit + 2 * one_if (is_some (issued_by before)))
@@ -82,7 +82,7 @@ abbrev pub IfLeads : Option Payload → Option Tenure → Type 0
 IfLeads None o = Unit {0}
 IfLeads (Some content) o = is_some o ≡ true
 
--- what a row of the primary owes
+-- what must hold of a row of the primary
 pub record Row (n : NodeId) (row : FileRow) (before : Option Tenure) (Own : Type 0) (limit : ℕ) (led : Led) : Type 0 where
   pub head : HeadStands (row_then row led).head
   pub moves : Moves row.head (row_then row led).head

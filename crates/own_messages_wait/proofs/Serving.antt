@@ -134,7 +134,7 @@ next_stamped g t head id epoch asked = at (nat_lt (head.stamp.count + 1) COUNTS)
 
 -- ---- one write
 
--- what a write makes of an active primary: it goes on, and a client is told at most; or an update is issued
+-- what a write makes of an active primary: it goes on, and at most a client is answered; or an update is issued
 data Wrote (place : Place) (t : Tenure) (head : FileHead) (issued : Option IssuedUpdate) (led : Led) : Type 0 where
   answered : led.primary.tenure ≡ Some t → to_itself place.node led.turned.outs ≡ [] → led.turned.rec ≡ None → Wrote place t head issued led
   issues_it : (i : IssuedUpdate) → issued ≡ None → led.primary.tenure ≡ Some (record t { progress = progress.Active head (Some i) }) → i.update.stamp ≡ record { epoch = t.epoch; count = head.stamp.count + 1 }

@@ -66,7 +66,7 @@ IfTenure n own (Some t) = TenureStands n own t
 
 -- ---- a message of the primary to its own node, or back
 
--- What is promised or taken there is so; an update is the next one at most.
+-- What the message says was promised or taken there still holds; an update is the next one at most.
 abbrev pub Stands : FileRow → Payload → Type 0
 Stands row (payload.Gather file epoch) = is_earlier row.head.promised epoch ≡ false
 Stands row (payload.Status file epoch head) = Unit {0}
@@ -82,7 +82,8 @@ Stands row (payload.Ack file stamp) = (is_earlier row.head.promised stamp.epoch 
 Stands row (payload.Refused file epoch promised) = is_earlier row.head.promised promised ≡ false
 Stands row _ = ⊥
 
--- What is told of what the node keeps, when it is told: a status is of its head; what is missing isn't held, what is staged is.
+-- What a message says of what the node keeps, when it is sent: a status is of its head; what is missing isn't held, what is
+-- staged is.
 abbrev pub TellsBody : FileRow → Payload → Type 0
 TellsBody row (payload.Status file epoch head) = head ≡ row.head
 TellsBody row (payload.Missing file epoch object version) = has_version row.held (body_of object version) ≡ false
@@ -97,7 +98,7 @@ IfMessage row (Some content) = Stands row content × TellsBody row content
 abbrev pub IsHeldIfNamed : FileRow → Option Tenure → ObjectVersion → Type 0
 IsHeldIfNamed row o v = (t : Tenure) (target : FileHead) → o ≡ Some t → target_in row.head t.epoch t.progress ≡ Some target → has_version target.versions v ≡ true → has_version row.held v ≡ true
 
--- What is so of that until the message is handled. A node may forget what it staged, but not what its tenure's target names.
+-- What holds of that until the message is handled. A node may forget what it staged, but not what its tenure's target names.
 abbrev pub BodyStays : FileRow → Option Tenure → Payload → Type 0
 BodyStays row o (payload.Status file epoch head) = head ≡ row.head
 BodyStays row o (payload.Missing file epoch object version) = has_version row.held (body_of object version) ≡ false
@@ -108,7 +109,7 @@ abbrev pub IfWaits : FileRow → Option Tenure → Option Payload → Type 0
 IfWaits row o None = Unit {0}
 IfWaits row o (Some content) = Stands row content × BodyStays row o content
 
--- it waits as it was told
+-- it waits as it was sent
 pub body_told : (row : FileRow) (o : Option Tenure) (content : Payload) → TellsBody row content → BodyStays row o content
 body_told row o (payload.Status file epoch head) is = is
 body_told row o (payload.Missing file epoch object version) is = is
@@ -119,7 +120,7 @@ pub waits : (row : FileRow) (o : Option Tenure) (sent : Option Payload) → IfMe
 waits row o None is = tt
 waits row o (Some content) is = (is.0, body_told row o content is.1)
 
--- where the tenure is over, or is the same, that is so as before
+-- where the tenure is over, or is the same, it stays as before
 pub body_still : (row : FileRow) (o p : Option Tenure) (content : Payload) → (p ≡ o) ⊎ (p ≡ None) → BodyStays row o content → BodyStays row p content
 body_still row o p (payload.Status file epoch head) same is = is
 body_still row o p (payload.Missing file epoch object version) same is = is

@@ -71,7 +71,7 @@ abbrev pub count_busy : List FileState → ℕ
 count_busy [] = 0
 count_busy (f ∷ fs) = one_if (is_busy f.lease) + count_busy fs
 
--- what a file's messages may come to, where they go out
+-- what a file's messages can weigh in all, where they go out
 pub load : (n : NodeId) (f : FileState) (told sent : Option Payload) → FileStands n f × FileSmall f → IsLeaseOf 4 told → (IsFree f.lease → (told ≡ None) × (sent ≡ None)) → chain_weight n f sent + lease_of told ≤ OWN * one_if (is_busy f.lease)
 load n f told sent its lease idle = at f.lease refl
   where
@@ -579,7 +579,7 @@ module _ (outside : Outside) (s : OsdState) (now : ℕ)
   message_starts m None concerns arrives other behind = none_starts
   message_starts m (Some file) concerns arrives other behind = heard_starts m file concerns arrives other behind.all_stand behind.all_rise
 
-  -- Behind an event from outside.
+  -- After an event from outside.
   pub event_starts : (happens : Event) → Arrives s happens → IsOutside s.started.node happens → Behind s.started.node (handled happens).files → Starts (handled happens) (room_of happens + OWN * count_busy (handled happens).files)
   event_starts (event.Deliver m) arrives other behind =
       loosen (awake_as s.started) s.started.node (handled (event.Deliver m)).files (to_itself s.started.node (handled (event.Deliver m)).turned.outs) (OWN * count_busy (handled (event.Deliver m)).files) (0 + OWN * count_busy (handled (event.Deliver m)).files) (omega arith) (message_starts m (file_concerned m.payload) refl arrives other behind)

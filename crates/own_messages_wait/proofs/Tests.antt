@@ -14,7 +14,7 @@ false_true e = cc e
 pub not_both : {P : Type 0} (b : Bool) → b ≡ true → b ≡ false → P
 not_both b is_so isnt = absurd (false_true (sym isnt ∙ is_so))
 
--- what is so before and after isn't new
+-- what holds before and after isn't new
 pub not_new : (b : Bool) → (b && not b) ≡ false
 not_new true = refl
 not_new false = refl

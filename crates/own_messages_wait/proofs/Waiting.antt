@@ -1,4 +1,4 @@
--- In every run a node's messages to itself wait in a chain; so a status that an OSD tells itself is of the head that it has.
+-- In every run a node's messages to itself wait in a chain; so a status that an OSD sends itself is of the head that it has.
 use Rattle.std.proofs.Common.{◌≡◌, ℕ, ◌≤◌, ◌+◌, ◌⊎◌, inl, inr, Bool, true, false, List, [], ◌∷◌, ◌++◌, refl, sym, ap, ap₂, subst, ◌∙◌, arith, Option, Some, None, append-nil, append_assoc}
 use Rattle.std.specs.Prelude.{cond, ◌==◌, ◌&&◌, max, not}
 use Rattle.std.proofs.lemmas.Bool.{eqb-true}

@@ -74,7 +74,7 @@ abbrev pub settles : Option IssuedUpdate → Stamp → Bool
 settles None stamp = false
 settles (Some issued) stamp = not (is_below stamp issued.update.stamp)
 
--- how many messages may come of one between a primary and its own node, and it
+-- how many messages can follow from one between a primary and its own node, that one included
 abbrev pub rank : Stand → Payload → ℕ
 rank a (payload.Gather file epoch) = 6 + bodies_left a.held a.target a.state
 rank a (payload.Status file epoch head) = 5 + bodies_left a.held a.target a.state

@@ -31,7 +31,7 @@ pub record WaitsFirst (room : Room) (d : Doing) (m : Msg) (s : OsdState) : Type 
   pub up : node.up ≡ Some running
   pub core : running.core ≡ osd s
 
--- A status that waits first, and that its node told itself, is of the head that the node has.
+-- A status that waits first, and that its node sent itself, is of the head that the node has.
 abbrev pub OwnStatusesStand : Room → Type 0
 OwnStatusesStand room =
     (d : Doing) (m : Msg) (s : OsdState) (file : FileId) (epoch : Epoch) (head : FileHead) → WaitsFirst room d m s

@@ -12,7 +12,7 @@ use std::thread::{Threads, join};
 /// How often the items are halved at most: into 64 parts.
 const DEPTH: u32 = 6;
 
-/// What is told as each item begins.
+/// What is called as each item begins.
 pub trait Gate: Sync {
     /// The item of this index, counted from 0, begins.
     fn begun(&self, index: u64);
@@ -26,7 +26,7 @@ impl Gate for NoGate {
 }
 
 /// A result of `f` for each item, in order, for every gate: the list that one thread gives. Each half has a thread of its own, where one
-/// can be made, down to one item or to 64 parts. An error is want of memory.
+/// can be made, down to one item or to 64 parts. An error means that memory ran out.
 pub fn map_halves<R: Threads + Sync, T: Sync, U: Send + Drop, F: Fn(&T) -> U + Sync, G: Gate>(
     rt: &R,
     alloc: Global,

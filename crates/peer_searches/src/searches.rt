@@ -37,7 +37,7 @@ impl Searches {
         }
     }
 
-    /// Each search is to begin anew, as where the head's versions have changed. It takes no memory.
+    /// Each search is to begin again, as where the head's versions have changed. It takes no memory.
     pub fn clear(&mut self)
         ensures { self.new ≡ [] }
     {

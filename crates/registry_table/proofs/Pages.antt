@@ -6,7 +6,7 @@ use Rattle.xt_messages.specs.declared.registry.RegistryRow.{RegistryRow}
 use Rattle.registry_table.specs.declared.registry.Registered.{Registered}
 use Rattle.registry_table.specs.Registry.{Rows, shown, is_listed}
 
--- the rows of a kind after a node, as they are told
+-- the rows of a kind after a node, as they are reported
 abbrev pub told_after : Rows → ℕ → ℕ → List RegistryRow
 told_after rows kind after = map shown (filter (is_listed kind after) rows)
 

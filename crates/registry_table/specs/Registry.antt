@@ -27,7 +27,7 @@ with_row rows node row = insert_entry nat_cmp rows node row
 abbrev pub without_row : Rows → ℕ → Rows
 without_row rows node = remove_entry (λ n. is_eq (nat_cmp node n)) rows
 
--- a row as it is told
+-- a row as it is reported
 abbrev pub shown : ℕ × Registered → RegistryRow
 shown row = record { node = record { 0 = row.0 }; kind = row.1.kind; address = row.1.address; version = row.1.version }
 

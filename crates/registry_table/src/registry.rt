@@ -51,7 +51,7 @@ impl Model for Registry {
     ghost invariant = { λ r. IsIndexed r.rows r.kinds };
 }
 
-/// A row as it is told.
+/// A row as it is reported.
 fn shown(alloc: Global, node: u32, row: &Registered) -> Result<RegistryRow, OutOfMemory>
     ensures { IfOk result (λ made. made ≡ shown (node, row.now)) }
 {
@@ -96,7 +96,7 @@ impl Registry {
         }
     }
 
-    /// A node's row as it is told, if there is one.
+    /// A node's row as it is reported, if there is one.
     pub fn row(&self, alloc: Global, node: NodeId) -> Result<Option<RegistryRow>, OutOfMemory>
         ensures { IfOk result (λ made. made ≡
             option_map (λ row. shown (node.0, row)) (row_of self.now node.0)) }

@@ -12,7 +12,7 @@ pub record IsReplayJob (source_before source_after sink_before sink_after : Opti
   -- The trace is the run of the lines that were taken, over journals of a limited length, and it is safe for each replicated
   -- file: one holder, acts of the holder, one order, each write once, answers that show the file, fresh ends.
   pub replay : IsReplay journal_room source_before source_after sink_before sink_after said
-  -- A fault ends the job and is told, where its object's count rose; with any other status no count did.
+  -- A fault ends the job and is reported, where its object's count rose; with any other status no count did.
   pub cause : HasCause source source_then sink sink_then said
   -- A good schedule is done whole, where neither the source nor the sink fails, unless memory runs out.
   pub complete : (Rose source source_then → ⊥) → (Rose sink sink_then → ⊥)

@@ -9,7 +9,7 @@ use world_disk_hull::DiskHull;
 use xt_messages::Status;
 
 /// Replays the schedule that the source gives, and puts the trace: all that the command `replay` does. The trace is safe, a fault
-/// ends it and is told, and a good schedule is done whole.
+/// ends it and is reported, and a good schedule is done whole.
 pub fn run_replay<S: Source, K: Sink>(alloc: Global, src: &mut S, out: &mut K) -> Status
     ensures { IsReplayJob (S.left src.old) (S.left src.new) (K.held out.old) (K.held out.new)
         (S.fault_count src.old) (S.fault_count src.new) (K.fault_count out.old)

@@ -81,7 +81,7 @@ again_is reading now number capability asked old new turned clock acts =
     let row : Row = λ site client. asks_first site client number capability asked in
     ap (λ (n : ℕ). row (site_at old n) (at_clock old n)) (sym clock) ∙ step_is row now old new turned acts
 
--- the marks of what was done tell how a call ended
+-- the marks of what was done say how a call ended
 pub ended_is : (row : Row) (now : ℕ) (old new : ClientView) (turned : Turned) → Acts row now old new turned
     → new.ended ≡ ended_by old.ended turned.marks
 ended_is row now old new turned acts =

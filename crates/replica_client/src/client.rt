@@ -498,7 +498,7 @@ impl ReplicaClient {
         self.end(now, Outcome::Refused { refusal })
     }
 
-    /// The call is refused for its truncate epoch. The file's is at least the told one.
+    /// The call is refused for its truncate epoch. The file's is at least the reported one.
     fn refuse_epoch(&mut self, now: u64, epoch: u64) -> Result<Turned, OutOfMemory>
         requires clock { now < 2 ^ 62 }
         requires runs { IsSome self.old.state.running }
@@ -648,7 +648,7 @@ impl ReplicaClient {
         }
     }
 
-    /// The call that ran has ended so, and these marks tell it.
+    /// The call that ran has ended so, and these marks report it.
     fn over(&mut self, now: u64, ended: Outcome, marks: Marks) -> Turned
         requires { now < 2 ^ 62 }
         ensures told { result ≡ record { rec = None; outs = []; marks = marks } }

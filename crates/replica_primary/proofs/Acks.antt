@@ -1,4 +1,4 @@
--- what an acknowledgement does, as the code tells it
+-- what an acknowledgement does, as the code puts it
 use Rattle.std.proofs.Common.{◌≡◌, ◌∙◌, ◌∷◌, [], ℕ, Bool, true, false, Some, None, List, refl, ap, sym}
 use Rattle.std.specs.Prelude.{cond, not}
 use Rattle.xt_base.specs.declared.ids.Epoch.{Epoch}

@@ -1,4 +1,4 @@
--- a peer is fed on, as the code tells it
+-- a peer is fed on, as the code puts it
 use Rattle.std.proofs.Common.{◌≡◌, ℕ, List, Option, Some, None, Bool, true, false, [], ◌∷◌, refl, ap, ◌∙◌}
 use Rattle.std.specs.Prelude.{is_some, cond, ◌==◌}
 use Rattle.xt_base.specs.declared.ids.NodeId.{NodeId}

@@ -1,4 +1,4 @@
--- a write by how it stands, as the code tells it
+-- a write by how it stands, as the code reports it
 use Rattle.std.proofs.Common.{◌≡◌, ℕ, Option, Some, [], ap, refl}
 use Rattle.xt_base.specs.declared.ids.OpId.{OpId}
 use Rattle.xt_messages.specs.declared.file.Op.{Op}

@@ -38,7 +38,7 @@ commit_told place update =
     joined (shows (mark.Commit place.file.number update.stamp.count update.id))
     (answers place.node place.file update.id update.stamp.count update.mark [])
 
--- what is told when a majority has acknowledged: that the issued update is committed, or that the primary is active
+-- what is reported when a majority has acknowledged: that the issued update is committed, or that the primary is active
 abbrev pub carried_told : Place → FileHead → Progress → Turned
 carried_told place own (progress.Active committed (Some issued)) = commit_told place issued.update
 carried_told place own _ = shows (mark.Active place.file.number own.stamp.count own.last)

@@ -47,7 +47,7 @@ kept_of file (Some b) = Some (kept.Stage file b.object b.version b.bytes)
 abbrev pub body_seen : List Record → FileId → Option FetchedBody → ℕ → Stamp → List ℕ
 body_seen records file fetched object version = body_beyond file (kept_of file fetched) (body_by records file) object version
 
--- what a primary stands on that sees the body that was just fetched
+-- what a primary may look at besides its tenure, if it sees the body that was just fetched
 abbrev pub ground_beyond : Place → List Record → Option FetchedBody → FileHead → List ObjectVersion → Ground
 ground_beyond place records fetched own held =
     record { place = place; own = own; held = held; body = body_beyond place.file (kept_of place.file fetched) (body_by records place.file) }
@@ -98,7 +98,7 @@ LeavesSearches old new (heard.GoesOn n) = Unit {0}
 LeavesSearches old new (heard.Missed v) = Unit {0}
 LeavesSearches old new (heard.Redraws above) = Unit {0}
 
--- whether a message is one that tells of a body that was sent, is an acknowledgement, or ends a tenure
+-- whether a message is one that reports what became of a body that was sent, is an acknowledgement, or ends a tenure
 abbrev pub is_apart : Payload → Bool
 is_apart (payload.Staged file epoch object version) = true
 is_apart (payload.Missing file epoch object version) = true

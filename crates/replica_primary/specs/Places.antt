@@ -5,7 +5,7 @@ use Rattle.xt_protocol.specs.declared.states.Peer.{Peer}
 use Rattle.xt_protocol.specs.declared.states.PeerState.{PeerState}
 use Rattle.xt_protocol.specs.Primaries.{peer_in, with_peer}
 
--- the first peer with this node stands there, and is so far; or there is none
+-- the first peer with this node is there, and is so far; or there is none
 abbrev pub IsPeerPlace : List Peer → NodeId → Option ℕ → Type 0
 IsPeerPlace peers node (Some place) =
     (place < length peers)

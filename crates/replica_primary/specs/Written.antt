@@ -13,7 +13,7 @@ use Rattle.xt_protocol.specs.Primaries.{Ground, Led}
 use Rattle.xt_protocol.specs.PrimaryRows.{goes_on}
 use Rattle.replica_primary.specs.declared.serving.Written.{Written}
 
--- what a primary stands on that sees the bodies of these records
+-- what a primary may look at besides its tenure, if it sees the bodies of these records
 abbrev pub ground : Place → List Record → FileHead → List ObjectVersion → Ground
 ground place records own held = record { place = place; own = own; held = held; body = body_by records place.file }
 

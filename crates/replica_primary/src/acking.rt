@@ -92,7 +92,7 @@ fn commit_told(alloc: Global, place: &Place, update: &Update) -> Result<Turned, 
     join(marked, answered)
 }
 
-/// What is told when a majority has acknowledged: that the issued update is committed, or that the primary is active.
+/// What is reported when a majority has acknowledged: that the issued update is committed, or that the primary is active.
 fn carried_told(
     alloc: Global,
     place: &Place,

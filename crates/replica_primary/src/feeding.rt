@@ -277,7 +277,7 @@ fn known_of(state: PeerState) -> Option<HeldSet>
     }
 }
 
-/// Takes out what is known of a peer that was sent a body or a head. The peer's state is to be set anew then.
+/// Takes out what is known of a peer that was sent a body or a head. The peer's state is to be set again then.
 fn take_known(peers: &mut Peers, node: NodeId) -> HeldSet
     requires { IsTrue (is_some (known_in (rows.peer_in peers.old node))) }
     ensures known { Some result ≡ known_in (rows.peer_in peers.old node) }
@@ -343,7 +343,7 @@ fn is_at_head(peers: &[Peer], node: NodeId) -> bool
     }
 }
 
-/// Body missed: it is no longer known of the peer, which is fed on. The search for what it lacks begins anew.
+/// Body missed: it is no longer known of the peer, which is fed on. The search for what it lacks begins again.
 pub fn body_missed<B: Bodies>(
     bodies: &mut B,
     alloc: Global,

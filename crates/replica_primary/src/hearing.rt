@@ -101,7 +101,7 @@ fn forget(peers: &mut Peers, from: NodeId)
     set_peer(peers, from, PeerState::Unknown);
 }
 
-/// Peer behind: it is asked anew.
+/// Peer behind: it is asked again.
 fn peer_behind(
     alloc: Global,
     place: &Place,
@@ -166,8 +166,8 @@ fn version_of(object: u64, version: Stamp) -> ObjectVersion
     ObjectVersion { object, version }
 }
 
-/// A message of the primary's epoch, from a peer, that tells of no body that was sent, is no acknowledgement, and after which the tenure
-/// goes on.
+/// A message of the primary's epoch, from a peer, that doesn't report what became of a body that was sent, is no acknowledgement, and
+/// after which the tenure goes on.
 fn goes_on_hearing(
     alloc: Global,
     place: &Place,
@@ -285,7 +285,7 @@ fn hears_in(
     }
 }
 
-/// The tenure goes on as a message has it. The searches for what peers lack begin anew.
+/// The tenure goes on as a message has it. The searches for what peers lack begin again.
 fn proceeds<B: Bodies>(
     bodies: &mut B,
     alloc: Global,

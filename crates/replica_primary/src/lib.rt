@@ -2,7 +2,7 @@
 //! peers, serves reads, issues updates and counts who has acknowledged them; a wake sends again what wasn't answered.
 //!
 //! Each call computes exactly its row of the definitions in `xt_protocol`. Contracts see where the primary stands, and its state in
-//! the rows' own terms. Where a message can't be taken for want of memory or for a fault, the primary is idle; where any other
+//! the rows' own terms. Where memory runs out or a fault occurs while a message is taken, the primary is idle; where any other
 //! call fails, it is as it was. The head that a commit leaves is a copy of the own one.
 #![tactic(auto)]
 

@@ -9,7 +9,7 @@ use xt_base::{FileId, Octets, OptionalBox, OutOfMemory, Stamp};
 use xt_messages::{FileHead, HeldSet, ObjectVersion, Record};
 use xt_protocol::{Progress, Tenure, Turned, quiet};
 
-/// How a tenure goes on after a message, told before a body is read for it.
+/// How a tenure goes on after a message, as it is known before a body is read for it.
 #[derive(Drop)]
 pub enum Next {
     /// This is given.

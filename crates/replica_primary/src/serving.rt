@@ -201,7 +201,7 @@ fn issues(
     }
 }
 
-/// What is told to a client without a change.
+/// What a client is answered where nothing changes.
 fn told(turned: Turned) -> Written
     ensures { result ≡ record { issued = None; turned = turned } }
 {

@@ -12,7 +12,7 @@ use xt_protocol::{
     sends, sends_one,
 };
 
-/// An unknown peer is asked anew.
+/// An unknown peer is asked again.
 fn gather_unknown(place: &Place, epoch: Epoch, peer: &Peer) -> Option<Payload>
     ensures { result ≡ rows.gather_unknown place.now epoch peer.now.node peer.now.state }
 {

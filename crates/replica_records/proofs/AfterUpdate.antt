@@ -78,7 +78,7 @@ module _ (head : FileHead) (update : Update) (lists : FitsLists head) (place : F
     kept = promised known;
   }
 
--- where an update within its limits is the next one, it may come exactly where there is room
+-- where an update within its limits is the next one, it may follow exactly where there is room
 pub follows : (head : FileHead) (update : Update) → FitsLists head → FitsUpdate update
     → ((update.stamp.epoch ≡ head.promised) ⊎ (update.stamp.epoch ≡ first_epoch)) × (update.stamp.count ≡ head.stamp.count + 1)
     → HasRoomFor head update ↔ FollowsHead head update

@@ -11,7 +11,7 @@ use Rattle.xt_protocol.specs.FileIds.{is_before}
 use Rattle.xt_protocol.specs.Heads.{versions_below, with_version, with_session}
 use Rattle.xt_protocol.specs.Folds.{row_in, with_row, new_row}
 
--- the version of the object stands there; or it belongs there
+-- the version of the object is there; or it belongs there
 abbrev pub IsVersionPlace : List ObjectVersion → ℕ → Result ℕ ℕ → Type 0
 IsVersionPlace rows object (Ok place) =
     (place < length rows)
@@ -20,7 +20,7 @@ IsVersionPlace rows object (Err place) =
     (place ≤ length rows)
     × ((row : ObjectVersion) → row.object ≡ object → with_version rows object row.version ≡ insert rows place row)
 
--- the session of the client stands there; or it belongs there
+-- the session of the client is there; or it belongs there
 abbrev pub IsSessionPlace : List Session → ℕ → Result ℕ ℕ → Type 0
 IsSessionPlace rows client (Ok place) =
     (place < length rows) × ((row : Session) → row.client.0 ≡ client → with_session rows row ≡ slice_set rows place row)
@@ -38,7 +38,7 @@ abbrev pub FilesRise : List FileRow → Type 0
 FilesRise [] = Unit {0}
 FilesRise (row ∷ rows) = AllByRecursion (λ later. is_before row.file later.file ≡ true) rows × FilesRise rows
 
--- the row of the file stands there; or a new one belongs there
+-- the row of the file is there; or a new one belongs there
 abbrev pub IsFilePlace : List FileRow → FileId → Result ℕ ℕ → Type 0
 IsFilePlace rows file (Ok place) =
     (place < length rows)

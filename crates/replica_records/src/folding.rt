@@ -229,7 +229,7 @@ impl Folding {
         self.folded
     }
 
-    /// Whether a promise of this epoch may come next.
+    /// Whether a promise of this epoch may follow.
     fn allows_promise(&self, file: &FileId, epoch: Epoch) -> bool
         ensures { result ≡ is_at_most (row_in self.now.files file.now).head.promised epoch }
     {
@@ -239,7 +239,7 @@ impl Folding {
         }
     }
 
-    /// Whether this update may come next.
+    /// Whether this update may follow.
     fn allows_update(
         &self,
         alloc: Global,
@@ -257,7 +257,7 @@ impl Folding {
         }
     }
 
-    /// Whether this head may come next.
+    /// Whether this head may follow.
     fn allows_head(&self, file: &FileId, head: &FileHead) -> bool
         ensures { IsTrue result
             ↔ All (Contains (row_in self.now.files file.now).held) head.now.versions }
@@ -268,7 +268,7 @@ impl Folding {
         }
     }
 
-    /// Whether a record within its limits may come next.
+    /// Whether a record within its limits may follow.
     pub fn is_in_place(&self, alloc: Global, rec: &Record) -> Result<bool, OutOfMemory>
         requires { FitsRecord rec.now }
         ensures { IfOk result (λ answer. IsTrue answer ↔ IsInPlace self.now rec.now) }

@@ -141,7 +141,7 @@ fn is_next(head: &FileHead, update: &Update) -> bool
     is_known && count > 0 && count - 1 == head.stamp.count
 }
 
-/// Whether an update may come after this head.
+/// Whether an update may follow this head.
 pub(crate) fn follows_head(
     alloc: Global,
     head: &FileHead,
@@ -164,7 +164,7 @@ fn has_room(head: &FileHead, update: &Update) -> bool
     versions_after(head, update) <= OBJECTS as usize && sessions_after(head, update) <= CLIENTS
 }
 
-/// Whether an update within its limits may come after this head, whose lists are within theirs: the head after it has
+/// Whether an update within its limits may follow this head, whose lists are within theirs: the head after it has
 /// at most one version and one session more.
 pub(crate) fn follows_fitting(head: &FileHead, update: &Update) -> bool
     requires lists { FitsLists head.now }

@@ -356,7 +356,7 @@ module _ (stripe : ℕ) (ops : ℕ × ℕ → Op) (members : List ℕ) (n : ℕ)
         listed : nodes_in peers1 ≡ members
         listed = nodes_with peers from (peer.Reported head) ∙ fits.tenure.1.peers
 
-        -- the own status was told with bodies that are held
+        -- the bodies of the reported own status are held
         own_told : (h : FileHead) → statuses_of peers1 n ≡ Some h → NamesHeld z.kept.held h.versions
         own_told h is = by_node (λ b. (if b then Some head else statuses_of peers n) ≡ Some h → NamesHeld z.kept.held h.versions) n from.0
             (λ same k. subst (λ (x : FileHead). NamesHeld z.kept.held x.versions) (some_is k) (mine (sym same)))

@@ -226,7 +226,7 @@ module _ (stripe : ℕ) (ops : ℕ × ℕ → Op) (members : List ℕ) (site : S
   mute_tells : (file : FileId) (id : OpId) (answer : Reply) → Mute (tells site.node file id answer)
   mute_tells file id answer = mute_sends (reply_to site.node file id answer ∷ []) (mute_one id.client (payload.Reply id.number file answer) refl)
 
-  -- what a primary stands on
+  -- what a primary may look at besides its tenure
   ground_is : (s : FileState) (holder : Option ℕ) (sent : List Message) (entries : List Entry) → stripe_of s.kept.location ≡ stripe → ground_at stripe n (At s holder sent entries) ≡ ground_of site s
   ground_is s holder sent entries is = ap of (sym is)
     where

@@ -50,7 +50,7 @@ told_names : (count : ℕ) (w : Update) (ws : List Update) → order_told count 
 told_names count w ws = subst (λ k. (if count == suc k then map name ws ++ name w ∷ [] else map name ws) ≡ map name (with_told count w ws)) (sym (length-names ws))
     (by_test (λ b. (if b then map name ws ++ name w ∷ [] else map name ws) ≡ map name (if b then ws ++ w ∷ [] else ws)) (count == suc (length ws)) (λ _. sym (map-append name ws (w ∷ []))) (λ _. refl))
 
--- the order that the entries tell is that of the marks
+-- the order that the entries report is that of the marks
 order_marks : (start : Start) (ms : List Mark) → order_of (order_at start) (map entry_of ms) ≡ map name (line_at start ms)
 order_marks start [] = refl
 order_marks start (Told n (Activated count w) ∷ ms) = ap (order_told count (name w)) (order_marks start ms) ∙ told_names count w (line_at start ms)

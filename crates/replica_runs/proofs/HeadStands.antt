@@ -63,7 +63,7 @@ MessageStands ms (UpdateSent u) = Has (world.Update u) ms
 MessageStands ms (Ack r t) = Has (world.Ack r t) ms
 MessageStands ms (Piece o v bytes) = Has (world.Piece (record { object = o; version = v; bytes = bytes })) ms
 
--- how an entry tells a mark
+-- how an entry reports a mark
 abbrev pub entry_of : world.Mark → Entry
 entry_of (world.Told n (Activated count w)) = TellsActive n count (name w)
 entry_of (world.Told n (Issued count w)) = TellsIssue n count (name w)

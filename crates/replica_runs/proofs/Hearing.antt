@@ -62,7 +62,7 @@ module _ (stripe : ℕ) (ops : ℕ × ℕ → Op) (members : List ℕ) (n : ℕ)
   abbrev pub Node : NodeId
   Node = record { 0 = n }
 
-  -- a row without a record: its steps, the peers and the progress after it, and what it tells and sends
+  -- a row without a record: its steps, the peers and the progress after it, and what it reports and sends
   pub row : (z : Seen) (e : Epoch) (peers : List Peer) (p : Progress) (peers1 : List Peer) (p1 : Progress) (outs : List Msg) (marks : List Mark) (entries : List Entry) (steps : List Step)
       → IsFit (seen_in z (tenure_of e peers p)) → MayAll stripe ops members n (local_of (seen_in z (tenure_of e peers p))) steps
       → after_steps n (local_of (seen_in z (tenure_of e peers p))) steps ≡ local_of (record (seen_in z (tenure_of e peers1 p1)) { entries = entries })

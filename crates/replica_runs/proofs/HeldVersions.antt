@@ -1,4 +1,4 @@
--- The versions that a node holds, as a rising set, and the bodies behind them.
+-- The versions that a node holds, as a rising set, and their bodies.
 use Rattle.std.proofs.Common.{◌≡◌, ℕ, ◌<◌, ◌⊎◌, Bool, true, false, List, ◌∷◌, refl, sym, ap, ap₂, ◌∙◌, subst, inl, inr, arith, if◌then◌else◌, ◌==◌, ◌&&◌, ◌||◌, not, Some, None}
 use Rattle.std.proofs.lemmas.Bool.{and_from}
 use Rattle.std.proofs.lemmas.Bool.Decides.{nat_tests}
@@ -54,7 +54,7 @@ held_cases hs v w h =
     by_test (λ b. is_version w v ≡ b → (b || has_version hs w) ≡ true → (w ≡ v) ⊎ (has_version hs w ≡ true)) (is_version w v)
     (λ _ e _. inl (version-equal w v e)) (λ _ _ k. inr k) refl (sym (has_version-with_held hs v w) ∙ h)
 
--- ---- the bodies behind them
+-- ---- their bodies
 
 -- a row whose held versions and bodies are as before
 pub same_bodies : (row other : FileRow) (body : ℕ → Stamp → List ℕ) (held : List Body) → other.held ≡ row.held → BodiesAre row body held → BodiesAre other body held

@@ -169,7 +169,7 @@ module _ (stripe : ℕ) (ops : ℕ × ℕ → Op) (members : List ℕ) (n : ℕ)
   untold_told (mark.Held file end ∷ ms) un es = untold_told ms un es
   untold_told (mark.Done number outcome ∷ ms) un es = untold_told ms un es
 
-  -- marks that tell nothing leave the entries
+  -- marks that report nothing leave the entries
   pub untold_same : (ms : List Mark) → AreUntold ms → (es es2 : List Entry) → AreTold stripe ops n ms es es2 → es ≡ es2
   untold_same [] un es es2 told = told
   untold_same (mark.Active file count id ∷ ms) un es es2 told = absurd un

@@ -81,7 +81,7 @@ module _ (members : List ℕ) (n : ℕ) where
 
 -- ---- what a row of a replica keeps and answers
 
--- the bodies that the head names stay held, and a status tells a head whose bodies are held
+-- the bodies that the head names stay held, and a status reports a head whose bodies are held
 pub record ActsWell (n : ℕ) (row : FileRow) (acted : Acted) : Type 0 where
   pub names : NamesHeld row.held row.head.versions → NamesHeld (kept_after row acted.rec).held (kept_after row acted.rec).head.versions
   pub told : NamesHeld row.held row.head.versions → (e : Epoch) (h : FileHead) → Has (Status n e h) (shown_if n acted.answer) → NamesHeld row.held h.versions

@@ -140,7 +140,7 @@ module _ (stripe : ℕ) (ops : ℕ × ℕ → Op) (members : List ℕ) (n : ℕ)
       outs m (inl h) = are_in (shown n m.payload) later.behind.sent (λ x k. later.shows.grows x (in_are (shown n m.payload) first.behind.sent (first.shows.outs m h) x k))
       outs m (inr h) = later.shows.outs m h
 
-  -- what a primary stands on stays where nothing is kept
+  -- what a primary may look at besides its tenure stays where nothing is kept
   pub same_ground : (a : Seen) (t : Option Tenure) (u : Turned) → (l : Leads stripe ops members n a t u) → u.rec ≡ None → ground_at stripe n l.behind ≡ ground_at stripe n a
   same_ground a t u l none = ap₂ of (l.kept ∙ ap (kept_after a.kept) none) (l.body ∙ ap (λ r. body_beyond a.kept.file r a.body) none)
     where

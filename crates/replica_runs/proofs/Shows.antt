@@ -85,7 +85,7 @@ module _ (makes : List Write → Write → Type 0) (members : List ℕ) (start :
     bodies = ok.bodies;
   }
 
-  -- a message, and a replica's move that it tells
+  -- a message, and a replica's move that it reports
   tells : (w : World) (s : State) (move : Move) (m : Message) → Legal every_rule members s move → Steady s (history.after s move) →
       ((r : ℕ) → (history.after s move).promised r ≡ s.promised r) → ((r : ℕ) → (history.after s move).head r ≡ s.head r) →
       (history.after s move).drawn ≡ s.drawn → (history.after s move).acts ≡ s.acts →

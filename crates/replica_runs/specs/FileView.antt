@@ -33,7 +33,7 @@ pub record Reaches (stripe : ℕ) (ops : ℕ × ℕ → Op) (members : List ℕ)
   pub body : behind.body ≡ body_beyond a.kept.file turned.rec a.body
   pub is_tenure : behind.tenure ≡ tenure
   pub fits : Fits members n behind
-  -- a step that keeps something tells nothing
+  -- a step that keeps something reports nothing
   pub calm : (turned.rec ≡ None) ⊎ AreUntold turned.marks
 
 -- and a step of a file leads to its state
@@ -95,7 +95,7 @@ AlwaysShowsFile =
 -- ---- a stop
 
 -- A node that stops after a step, however few of its messages got out: the list of small steps, and then the loss of the lease.
--- Where the step keeps a record it tells nothing, so a stop in its append, with the record kept, is the same.
+-- Where the step keeps a record it reports nothing, so a stop in its append, with the record kept, is the same.
 pub record Stops (stripe : ℕ) (ops : ℕ × ℕ → Op) (members : List ℕ) (n : ℕ) (a : Seen) (turned : Turned) : Type 0 where
   pub holder : Option ℕ
   pub sent : List Message

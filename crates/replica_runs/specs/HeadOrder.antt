@@ -1,4 +1,4 @@
--- What the entries of a file tell: its line of writes, by their ids, and what fits it.
+-- What the entries of a file report: its line of writes, by their ids, and what fits it.
 use Rattle.std.specs.Prelude.{◌≡◌, ◌⊎◌, ℕ, suc, pred, ◌+◌, ◌-◌, ◌*◌, ◌≤◌, ◌==◌, if◌then◌else◌, min, List, [], ◌∷◌, ◌++◌, length, map, drop, slice_get, Some}
 use Rattle.xt_messages.specs.declared.file.Op.{Op}
 use Rattle.xt_messages.specs.declared.file.Op.TheVariants as op
@@ -9,7 +9,7 @@ use Rattle.replica_safety.specs.Lists.{Has, AreDistinct}
 use Rattle.replica_safety.specs.Rules.{Start}
 use Rattle.replica_runs.specs.HeadWorld.{Entry, TellsActive, TellsIssue, TellsCommit, ReadOk, WriteOk}
 
--- An entry that tells a place one above the length appends its write.
+-- An entry that reports a place one above the length appends its write.
 abbrev pub order_told : ℕ → ℕ × ℕ → List (ℕ × ℕ) → List (ℕ × ℕ)
 order_told count id order = if count == suc (length order) then order ++ id ∷ [] else order
 
@@ -38,7 +38,7 @@ ShowsContent stripe ops order size o body =
     (at len : ℕ) → at + len ≤ stripe
     → cut_or_filled (drop at body) (min len (size - (o * stripe + at))) ≡ range_of (content_of stripe (map ops order)) (place_of stripe o at) len
 
--- The newest entry fits the order. Who is active or commits tells its length and its last write; what is issued is one past
+-- The newest entry fits the order. Who is active or commits reports its length and its last write; what is issued is one past
 -- it; a read is answered with its length and the asked range of its content, a write with its place, counted from 1.
 abbrev pub Fits : ℕ → (ℕ × ℕ → Op) → List (ℕ × ℕ) → List Entry → Type 0
 Fits stripe ops order [] = Unit {0}
@@ -63,7 +63,7 @@ order_at start = map name start.line
 abbrev pub known_at : Start → List (ℕ × ℕ)
 known_at start = map name (start.line ++ start.open_writes)
 
--- one of these entries tells that this write is issued
+-- one of these entries reports that this write is issued
 abbrev pub IsIssued : List Entry → ℕ × ℕ → Type 0
 IsIssued es id = (n : ℕ) × (count : ℕ) × Has (TellsIssue n count id) es
 

@@ -21,7 +21,7 @@ three = 1 ∷ 2 ∷ 3 ∷ []
 abbrev pub the_file : FileId
 the_file = record { volume = replicate 16 0; number = 1 }
 
--- nothing is kept, sent or told yet
+-- nothing is kept, sent or reported yet
 abbrev pub first_world : World
 first_world = record {
   nodes = λ r. record { kept = new_row the_file; body = λ o v. []; primary = Idle };

@@ -194,7 +194,7 @@ pub record IsMadeOver (stripe : ℕ) (ops : ℕ × ℕ → Op) (body : ℕ → S
   pub stands : standing OBJECTS stripe c id truncation (ops (id.client.0, id.number)) ≡ fresh
   pub makes : update_of stripe body c (next_stamp e c) id truncation (ops (id.client.0, id.number)) ≡ Some u
 
--- When a step of this node may come.
+-- When this node may do a step.
 abbrev pub May : ℕ → (ℕ × ℕ → Op) → List ℕ → ℕ → Local → Step → Type 0
 -- the leases let one node in at a time
 May stripe ops members n l Gains = l.holder ≡ None

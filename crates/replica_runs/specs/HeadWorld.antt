@@ -65,7 +65,7 @@ abbrev pub shown_if : ℕ → Option Payload → List Message
 shown_if n None = []
 shown_if n (Some content) = shown n content
 
--- What the trace tells. The bytes of a read are cut out of the object's body by the size.
+-- What the trace reports. The bytes of a read are cut out of the object's body by the size.
 pub data Entry : Type 0 where
   TellsActive : (node count : ℕ) → (id : ℕ × ℕ) → Entry
   TellsIssue : (node count : ℕ) → (id : ℕ × ℕ) → Entry

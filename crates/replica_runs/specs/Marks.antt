@@ -1,4 +1,4 @@
--- What the marks tell: one line of writes, and answers that show it.
+-- What the marks report: one line of writes, and answers that show it.
 use Rattle.std.specs.Prelude.{◌≡◌, ℕ, pred, ◌≤◌, List, [], ◌∷◌, ◌++◌, slice_get, Some}
 use Rattle.xt_messages.specs.declared.file.Op.{Op}
 use Rattle.std.specs.Prelude.{false}

@@ -58,7 +58,7 @@ primary_of None = Idle
 primary_of (Some t) = leads_as t.epoch t.peers t.progress
 
 -- What is seen of a file at its node, and of the rest of the world: what is kept, the bodies, the tenure; who holds, what was
--- ever sent, and what was told.
+-- ever sent, and what was reported.
 pub record Seen : Type 0 where
   pub kept : FileRow
   pub body : ℕ → Stamp → List ℕ
@@ -75,7 +75,7 @@ local_of a = record {
   entries = a.entries;
 }
 
--- what the file's primary stands on
+-- what the file's primary may look at besides its tenure
 abbrev pub ground_at : ℕ → ℕ → Seen → Ground
 ground_at stripe n a = record {
   place = record { node = record { 0 = n }; file = a.kept.file; stripe = stripe };
@@ -84,7 +84,7 @@ ground_at stripe n a = record {
   body = a.body;
 }
 
--- What a step tells and sends.
+-- What a step reports and sends.
 
 -- these are among those
 abbrev pub AreIn : List Message → List Message → Type 0
@@ -102,7 +102,7 @@ IsAnswer stripe ops n id count bytes (ReadOk node c size object body) =
 IsAnswer stripe ops n id count bytes (WriteOk node c i) = (node ≡ n) × (c ≡ count) × (i ≡ name_of id) × (bytes ≡ [])
 IsAnswer stripe ops n id count bytes _ = ⊥
 
--- The marks of a step of this node, in order, as entries of the world, the newest first; marks of leases tell nothing here.
+-- The marks of a step of this node, in order, as entries of the world, the newest first; marks of leases report nothing here.
 abbrev pub AreTold : ℕ → (ℕ × ℕ → Op) → ℕ → List Mark → List Entry → List Entry → Type 0
 AreTold stripe ops n [] before after = before ≡ after
 AreTold stripe ops n (mark.Active file count id ∷ ms) before after = AreTold stripe ops n ms (TellsActive n count (name_of id) ∷ before) after
@@ -112,7 +112,7 @@ AreTold stripe ops n (mark.Answer file id count bytes ∷ ms) before after =
     (e : Entry) × IsAnswer stripe ops n id count bytes e × AreTold stripe ops n ms (e ∷ before) after
 AreTold stripe ops n (_ ∷ ms) before after = AreTold stripe ops n ms before after
 
--- marks that tell nothing here
+-- marks that report nothing here
 abbrev pub AreUntold : List Mark → Type 0
 AreUntold [] = Unit {0}
 AreUntold (mark.Active file count id ∷ ms) = ⊥
@@ -121,8 +121,8 @@ AreUntold (mark.Commit file count id ∷ ms) = ⊥
 AreUntold (mark.Answer file id count bytes ∷ ms) = ⊥
 AreUntold (_ ∷ ms) = AreUntold ms
 
--- What a step gives is a list of small steps, which may come: what is seen after it, what it sends, and what it tells. A status
--- is sent by the rows of a replica alone.
+-- What a step gives is a list of small steps, each of which is allowed: what is seen after it, what it sends, and what it
+-- reports. A status is sent by the rows of a replica alone.
 pub record Shows (stripe : ℕ) (ops : ℕ × ℕ → Op) (members : List ℕ) (n : ℕ) (a b : Seen) (turned : Turned) : Type 0 where
   pub steps : List Step
   pub may : MayAll stripe ops members n (local_of a) steps
@@ -169,7 +169,7 @@ abbrev pub TenureFits : List ℕ → ℕ → Seen → Option Tenure → Type 0
 TenureFits members n a None = a.holder ≡ Some n → ⊥
 TenureFits members n a (Some t) = (a.holder ≡ Some n) × FitsIn members n a t
 
--- a status that a node tells itself is of bodies that it holds
+-- a status that a node sends itself is of bodies that it holds
 abbrev pub OwnFits : ℕ → List ObjectVersion → NodeId → Payload → Type 0
 OwnFits n held from (payload.Status file epoch head) = from.0 ≡ n → NamesHeld held head.versions
 OwnFits n held from _ = Unit {0}
@@ -187,7 +187,7 @@ pub record Leads (stripe : ℕ) (ops : ℕ × ℕ → Op) (members : List ℕ) (
   pub body : behind.body ≡ body_beyond a.kept.file turned.rec a.body
   pub is_tenure : behind.tenure ≡ tenure
   pub fits : Fits members n behind
-  -- a step that keeps something tells nothing
+  -- a step that keeps something reports nothing
   pub calm : (turned.rec ≡ None) ⊎ AreUntold turned.marks
   -- who has nothing issued in the end has kept nothing
   pub steady : is_ready tenure ≡ true → turned.rec ≡ None

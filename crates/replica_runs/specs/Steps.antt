@@ -126,7 +126,7 @@ abbrev pub IsAsked : Stamp → List Message → Type 0
 IsAsked t messages =
     ((ws : List Write) × Has (Install t.epoch ws) messages × (length ws ≡ t.count)) ⊎ ((v : Write) × Has (Update v) messages × (v.stamp ≡ t))
 
--- When a step may come.
+-- When a step is allowed.
 abbrev pub May : (List Write → Write → Type 0) → List ℕ → World → Step → Type 0
 -- the leases let one node in at a time
 May makes members w (Gains n) = w.holder ≡ None

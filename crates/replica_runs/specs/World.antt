@@ -42,7 +42,7 @@ pub data Message : Type 0 where
   -- a body, whether it is fetched or staged
   Piece : (body : Body) → Message
 
--- What a node tells the outside. An answer to a read shows all these writes, and the body
+-- What a node reports to the outside. An answer to a read shows all these writes, and the body
 -- of an object; one to a write shows its place.
 pub data Mark : Type 0 where
   Told : (node : ℕ) → (act : Act) → Mark

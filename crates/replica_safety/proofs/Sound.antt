@@ -443,13 +443,13 @@ module _ (members : List ℕ) (start : Start) where
       reached_too x (inl p) = subst (λ (y : Acknowledged). AtMost y.stamp (stamp_of (s.head y.replica))) (sym p) reached
       reached_too x (inr h) = ok.acknowledgements.reached x h
 
-  -- the acts that tell a write
+  -- the acts that report a write
   last_push : (ws : List Write) (w : Write) → last_write (ws ++ w ∷ []) ≡ w
   last_push [] w = refl
   last_push (v ∷ []) w = refl
   last_push (v ∷ u ∷ ws) w = last_push (u ∷ ws) w
 
-  -- to tell the last write of what is near the line makes that the line
+  -- to report the last write of what is near the line makes that the line
   told_line : (line ws : List Write) → IsNear line ws → with_told (length ws) (last_write ws) line ≡ ws
   told_line line ws near = go near.more near.is near.one
     where

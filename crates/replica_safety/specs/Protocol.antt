@@ -2,7 +2,7 @@
 use Rattle.std.specs.Prelude.{ℕ, suc, pred, Bool, true, List, [], ◌∷◌, ◌++◌, length, take, drop, Option, None, Some}
 use Rattle.replica_safety.specs.Epochs.{Epoch, Stamp, Write, Head, at_epoch, at_node}
 
--- What a replica told the primary of an epoch: the head that it had.
+-- What a replica reported to the primary of an epoch: the head that it had.
 pub record Reported : Type 0 where
   pub replica : ℕ
   pub epoch : Epoch
@@ -13,7 +13,8 @@ pub record Acknowledged : Type 0 where
   pub replica : ℕ
   pub stamp : Stamp
 
--- What a primary does in the sight of others. Each act tells a write, and which place that write has in the file's line of writes.
+-- What a primary does that others see. Each act reports a write, and which place that write has in the file's line of
+-- writes.
 pub data Act : Type 0 where
   -- it begins to serve; the write is the last of those that it begins with, `no_write` where there is none
   Activated : (place : ℕ) → (write : Write) → Act
@@ -67,7 +68,7 @@ pub data Move : Type 0 where
   Draw : (epoch : Epoch) → Move
   -- a replica promises an epoch
   Promise : (replica : ℕ) → (epoch : Epoch) → Move
-  -- a replica tells the primary of an epoch its head, as it is
+  -- a replica reports to the primary of an epoch its head, as it is
   Report : (replica : ℕ) → (epoch : Epoch) → Move
   -- the primary of an epoch chooses the head that the epoch begins with
   Choose : (epoch : Epoch) → (found : Head) → Move

@@ -70,7 +70,7 @@ abbrev pub HasAcknowledged : List Acknowledged → Stamp → ℕ → Type 0
 HasAcknowledged acknowledged t r =
     (u : Stamp) × Has (record { replica = r; stamp = u }) acknowledged × AtMost t u
 
--- Whether a move may come next. What stands under no rule says what the move is.
+-- Whether a move may follow. What stands under no rule says what the move is.
 abbrev pub Legal : Rules → List ℕ → State → Move → Type 0
 -- A node draws above its own promise, and promises what it draws: that is a draw and a promise.
 Legal rules members s (Draw e) = record {
@@ -124,7 +124,7 @@ Legal rules members s (Activate e) = record {
 Legal rules members s (Issue e w) = record {
   current : Under rules.current_acts (s.current ≡ Some e);
   active : s.active e ≡ true;
-  -- so the next primary finds at most one write that isn't committed, and its first act tells that one
+  -- so the next primary finds at most one write that isn't committed, and its first act reports that one
   none_open : Under rules.one_open (s.committed e ≡ length (writes_of s e));
   new : Under rules.write_is_new (Has (name w) (map name (writes_of s e)) → ⊥);
 }

@@ -73,7 +73,7 @@ impl Replica {
         &self.held
     }
 
-    /// Gathered: an epoch that isn't earlier than the promised one is promised, and the head told; else it is refused.
+    /// Gathered: an epoch that isn't earlier than the promised one is promised, and the head reported; else it is refused.
     #[tactic(auto, unfolding(xt_protocol::specs::ReplicaRows::gathered), using(crate::proofs::HeadFits::promised_fits, crate::proofs::HeadFits::earlier_at_most))]
     pub fn on_gather(&mut self, epoch: &Epoch) -> Result<Acted, OutOfMemory>
         requires { FitsEpoch epoch.now }

@@ -7,7 +7,7 @@ use Rattle.schedule_lines.specs.declared.next.NextLine.TheVariants as next
 use Rattle.schedule_lines.specs.Putting.{IsPut, IsFinished}
 use Rattle.schedule_lines.specs.Causes.{CausesPut, CausesEnd, MayHaveRisen, HasCause}
 
--- whatever is told, the source's count stayed or rose
+-- whatever is reported, the source's count stayed or rose
 pub source_moved : (source_before source_after sink_before sink_after : ℕ) (s : Status) → HasCause source_before source_after sink_before sink_after s → MayHaveRisen source_before source_after
 source_moved sb sa kb ka (status.SourceFault count) cause = inr cause.0
 source_moved sb sa kb ka (status.SinkFault count) cause = cause.2
@@ -24,7 +24,7 @@ told_cause sb sa kb ka (status.SinkFault count) told cause = (told.0, told.1, ca
 told_cause sb sa kb ka status.OutOfMemory told cause = (cause.0, told)
 told_cause sb sa kb ka _ told cause = (cause.0, told)
 
--- a status that was told, or that the telling gave
+-- a status that was reported, or that reporting it gave
 pub finished_cause : (source_before source_after sink_before sink_after : ℕ) (held_before held_after : Option (List ℕ)) (s given : Status)
     → IsFinished held_before held_after s given
     → CausesEnd sink_before sink_after given

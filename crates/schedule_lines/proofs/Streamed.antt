@@ -7,7 +7,7 @@ pub Takes-nothing : (left : Option (List ℕ)) → Takes left left []
 Takes-nothing None = refl
 Takes-nothing (Some left) = (left, refl, refl)
 
--- what was taken from what isn't told, and from what is
+-- what was taken from what isn't known, and from what is
 Takes-told : (c : Option (List ℕ)) (a b : List ℕ) (rest xs ys : List ℕ) → a ≡ xs ++ rest → Some b ≡ Some rest → Takes (Some b) c ys → Takes (Some a) c (xs ++ ys)
 Takes-told c a b rest xs ys first same second =
     let is_rest : b ≡ rest = cc in

@@ -1,11 +1,11 @@
--- What becomes of the counts of faults of a source and a sink. A fault ends the job that meets it, and is told with its
+-- What becomes of the counts of faults of a source and a sink. A fault ends the job that meets it, and is reported with its
 -- count, so a job that ends otherwise met none.
 use Rattle.std.specs.Prelude.{ℕ, ◌≡◌, ◌⊎◌, Option, Some, None}
 use Rattle.xt_messages.specs.declared.status.Status.{Status}
 use Rattle.xt_messages.specs.declared.status.Status.TheVariants as status
 use Rattle.xt_base.specs.Faults.{Rose}
 
--- the sink's count of faults rose exactly where it is told to have failed, with that count
+-- the sink's count of faults rose exactly where the status reports that it failed, with that count
 abbrev pub CausesPut : ℕ → ℕ → Option Status → Type 0
 CausesPut before later None = later ≡ before
 CausesPut before later (Some (status.SinkFault count)) = Rose before later × (count ≡ later)
@@ -24,10 +24,10 @@ abbrev pub HasCause : ℕ → ℕ → ℕ → ℕ → Status → Type 0
 -- the source failed, and the sink didn't
 HasCause source_before source_after sink_before sink_after (status.SourceFault count) =
     Rose source_before source_after × (count ≡ source_after) × (sink_after ≡ sink_before)
--- the sink failed, maybe as a fault of the source was told
+-- the sink failed, maybe while a fault of the source was reported
 HasCause source_before source_after sink_before sink_after (status.SinkFault count) =
     Rose sink_before sink_after × (count ≡ sink_after) × MayHaveRisen source_before source_after
--- memory ran out, maybe as a fault of the source was told
+-- memory ran out, maybe while a fault of the source was reported
 HasCause source_before source_after sink_before sink_after status.OutOfMemory =
     MayHaveRisen source_before source_after × (sink_after ≡ sink_before)
 -- with any other status neither failed

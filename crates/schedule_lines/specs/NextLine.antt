@@ -42,7 +42,7 @@ IsReading before old new (next.Line line) = Takes old new (ended (line_text line
 IsReading before old new next.End = Takes old new [] × IsAtEnd new
 IsReading before old new (next.Stopped s) = (taken : List ℕ) × Takes old new taken × StopsReading before taken new s
 
--- the source's count of faults rose exactly where it is told to have failed, with that count
+-- the source's count of faults rose exactly where the status reports that it failed, with that count
 abbrev pub CountsFaults : ℕ → ℕ → NextLine → Type 0
 CountsFaults before after (next.Line line) = after ≡ before
 CountsFaults before after next.End = after ≡ before

@@ -20,7 +20,7 @@ IsFinished old new s given =
     ⊎ ((count : ℕ) × (given ≡ status.SinkFault count) × PutsFront old new (last_line s))
     ⊎ ((given ≡ status.OutOfMemory) × Puts old new [])
 
--- the status doesn't tell of the sink
+-- the status doesn't report a fault of the sink
 abbrev pub IsNoSinkFault : Status → Type 0
 IsNoSinkFault (status.SinkFault count) = ⊥
 IsNoSinkFault _ = Unit {0}

@@ -39,7 +39,7 @@ unfoldable pub restart_before : ℕ → List Line
 restart_before turn =
     if nat_lt 0 turn && (turn % 64 == 0) then line.Stop (node 2) ∷ line.Start (node 2) (clock_before turn) ∷ [] else []
 
--- before each positive multiple of 16 time passes, and OSD 1 is told
+-- before each positive multiple of 16 time passes, and OSD 1 is woken
 unfoldable pub pause_before : ℕ → List Line
 pause_before turn =
     if nat_lt 0 turn && (turn % 16 == 0) then line.Tick 400 ∷ line.Wake (node 1) ∷ line.Settle 400 ∷ [] else []

@@ -175,7 +175,7 @@ fn push_turn(
     Ok(())
 }
 
-/// The schedule of this number, with so many turns. An error is want of memory.
+/// The schedule of this number, with so many turns. An error means that memory ran out.
 pub fn generate(alloc: Global, number: u64, size: u32) -> Result<Vec<Line>, OutOfMemory>
     ensures { IfOk result (λ lines. lines.items ≡ generated number size) }
 {

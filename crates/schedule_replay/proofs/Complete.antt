@@ -69,7 +69,7 @@ lines_behind before (k ∷ ks) (l ∷ ls) more p q e =
     let rest = lines_behind (before + 1) ks ls more p.1 q.1 same.1 in
     (rest.0, ap (λ (m : Line). m ∷ ks) line ∙ ap (λ (ms : List Line). l ∷ ms) rest.1, rest.2)
 
--- what is so of the lines that are left
+-- what holds of the lines that are left
 of_schedule-rest : (before : ℕ) (lines rest : List Line) → AreOfSchedule before (lines ++ rest) → AreOfSchedule (before + length lines) rest
 of_schedule-rest before [] rest all = subst (λ (n : ℕ). AreOfSchedule n rest) (let e : before ≡ before + 0 = omega arith in e) all
 of_schedule-rest before (l ∷ ls) rest all =

@@ -44,7 +44,7 @@ pub trace_text-more : (old more : List Entry) → trace_text (old ++ more) ≡ t
 unfolding trace_text
 trace_text-more old more = flat_map-append _ old more
 
--- what is so of a replay that goes on: the lines so far were done, taken and shown
+-- what holds of a replay that goes on: the lines so far were done, taken and shown
 pub record IsSoFar (room : Room) (source_before source_now sink_before sink_now : Option (List ℕ)) (w : World) : Type 0 where
   pub run : AreRun room w.lines
   pub same : w ≡ run_of room w.lines

@@ -44,7 +44,7 @@ abbrev pub IsTaken : World → List ℕ → Line → Type 0
 IsTaken w taken line =
     (length w.lines < LINES) × IsLine (length w.lines == 0) line × (taken ≡ ended (line_text line))
 
--- another line may come, but none is read
+-- another line can follow, but none is read
 abbrev pub IsUnread : World → List ℕ → Option (List ℕ) → Status → Type 0
 IsUnread w taken left s = (length w.lines < LINES) × StopsReading (length w.lines) taken left s
 

@@ -2,7 +2,7 @@
 //!
 //! `replay` promises that what is put is the text of the entries of a run of the lines that were taken, with the last line
 //! of the status after it; that this trace is safe; that each status comes where it is due; and that a fault ends the replay,
-//! and is told only where its object's count rose.
+//! and is reported only where its object's count rose.
 #![tactic(auto)]
 
 mod replaying;

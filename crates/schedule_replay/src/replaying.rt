@@ -56,7 +56,7 @@ pub fn replay<C: NodeCore, H: Hull, S: Source, K: Sink>(
     // The trace is that of a run of the lines that were taken, over journals that have the hull's room, and it is safe.
     ensures replay { IsReplay H.room (S.left src.old) (S.left src.new) (K.held out.old)
         (K.held out.new) result }
-    // A fault ends the replay and is told, where its object's count rose; with any other status no count did.
+    // A fault ends the replay and is reported, where its object's count rose; with any other status no count did.
     ensures cause { HasCause (S.fault_count src.old) (S.fault_count src.new) (K.fault_count out.old)
         (K.fault_count out.new) result }
     // A good schedule is done whole, where neither the source nor the sink fails, unless memory runs out.

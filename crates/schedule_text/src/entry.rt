@@ -255,7 +255,7 @@ fn is_spelled(alloc: Global, entry: &Entry, bytes: &[u8], first: bool) -> Result
 }
 
 /// The entry that these bytes, without a line feed, spell; `first` says whether they are a trace's first line, the only one that
-/// may tell the times. `Malformed` exactly where no entry of the language is spelled so.
+/// may give the times. `Malformed` exactly where no entry of the language is spelled so.
 #[tactic(auto, using(crate::proofs::EntryAgain::entry_again))]
 pub fn read_entry(alloc: Global, bytes: &[u8], first: bool) -> Result<Entry, LineErr>
     // What is read is in the language, and is spelled so.

@@ -207,7 +207,7 @@ fn held(words: &[u8]) -> Entry
     }
 }
 
-/// A write's place in a file's order, as a node tells it.
+/// A write's place in a file's order, as a node reports it.
 #[derive(Clone, Copy)]
 struct Position {
     node: NodeId,

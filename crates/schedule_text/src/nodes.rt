@@ -1,4 +1,4 @@
-//! Nodes, the members of a file and where it lies, as the words of a line tell them.
+//! Nodes, the members of a file and where it lies, as the words of a line give them.
 ghost use Rattle.std.specs.Prelude.{◌≡◌, ◌≤◌, length, take};
 ghost use Rattle.server_text.specs.Reading.{node_in};
 ghost use Rattle.schedule_text.specs.LineReading.{node_at, nodes_of, as_members, members_at, location_at};

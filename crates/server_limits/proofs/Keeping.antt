@@ -47,7 +47,7 @@ fit_more : (records : List Record) (rec : Option Record) → AllByRecursion Fits
 fit_more records None all fits = all
 fit_more records (Some rec) all fits = all-append records (rec ∷ []) all ((follows_one rec (fold_of records) fits).0, tt)
 
--- what is told by one more record
+-- what one more record says
 tell_more : (S : Type 0) (after : S → Record → S) (empty : S) (records : List Record) (rec : Option Record) →
     fold after (fold after empty records) (option_to_list rec) ≡ fold after empty (one_more records rec)
 tell_more S after empty records None = refl

@@ -10,7 +10,7 @@ use Rattle.server_rows.specs.Metadata.{MrcState, MrcStep, catalogue_of}
 use Rattle.server_rows.specs.Directory.{DirState, DirStep, dir_of}
 use Rattle.server_limits.specs.Limits.{FitsMrc, FitsDir}
 
--- The metadata server runs on these records: they are within their limits, it is within its own, and it knows what they tell.
+-- The metadata server runs on these records: they are within their limits, it is within its own, and it knows what they say.
 pub record MrcRunsOn (key : List ℕ) (records : List Record) (mrc : MrcState) : Type 0 where
   pub kept : AllByRecursion FitsRecord records
   pub limits : FitsMrc mrc

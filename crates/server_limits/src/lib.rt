@@ -1,8 +1,8 @@
 //! The metadata server and the directory service keep to the limits.
 //!
-//! Each record, message and mark of a step is within its limits, and the step leaves a state that is so again. So is the state that
-//! records within the limits tell. A node that serves one of them, and keeps each record before it sends the messages of the step, can
-//! be refused for want of room alone. Definitions and theorems alone; nothing runs here.
+//! Each record, message and mark of a step is within its limits, and the step leaves a state that is within its own. So is the state
+//! that records within the limits determine. A node that serves one of them, and keeps each record before it sends the messages of the
+//! step, can be refused only where there is no room. Definitions and theorems alone; nothing runs here.
 #![tactic(auto)]
 
 ghost use Rattle.std.specs.Prelude.{◌<◌, ◌^◌, ◌++◌, ◌∷◌, [], ℕ, List};

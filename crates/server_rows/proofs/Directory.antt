@@ -1,4 +1,4 @@
--- each step's record tells its change
+-- each step's record says what changes
 use Rattle.std.proofs.Common.{◌≡◌, ◌∙◌, ℕ, List, ◌++◌, refl, sym, ap, Bool, true, false, cond}
 use Rattle.std.specs.Prelude.{fold}
 use Rattle.std.specs.Option.{option_to_list}
@@ -17,7 +17,7 @@ use Rattle.reply_cache.specs.Standings.{standing_of}
 use Rattle.registry_table.specs.Registry.{outcome_of, is_recorded, is_spent}
 use Rattle.server_rows.specs.Directory.{DirState, DirStep, dir_of, after_record, after_request, nothing, answered, recorded, fresh, by_standing, told_by, step_of_dir}
 
--- the state after a step is the one before it with what the record tells
+-- the state after a step is the one before it with what the record says
 abbrev pub IsTold : DirState → DirStep → Type 0
 IsTold dir step = step.dir ≡ fold after_record dir (option_to_list step.turned.rec)
 

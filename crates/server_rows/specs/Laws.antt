@@ -33,7 +33,7 @@ SettlesAs old new (answer.Granted capability mark) = ⊥
 abbrev pub Settles : Volumes → Outcome → Type 0
 Settles volumes outcome = SettlesAs volumes outcome.volumes outcome.answer
 
--- what is told of the files that were ever made: each file, and the clock at which it was unlinked, if it was
+-- what is known of the files that were ever made: each file, and the clock at which it was unlinked, if it was
 abbrev pub files_made : List (ℕ × MadeFile) → List (FileId × Option ℕ)
 files_made made = map (λ entry. (entry.1.file, entry.1.unlinked)) made
 

@@ -1,5 +1,5 @@
 //! What the metadata server (MRC) and the directory service (DIR) do, as definitions: what comes of each request, a step each, and
-//! what their records tell.
+//! what their records say.
 //!
 //! `Requests` and `Metadata` are the MRC's, `Directory` is the DIR's. The code of the servers computes these steps, and a run of a
 //! world can take them. Definitions and theorems alone; nothing runs here.
@@ -49,8 +49,8 @@ ghost use Rattle.server_rows.specs.Laws.{IsChange, RiseFrom, Settles, files_made
 ghost use Rattle.server_rows.specs.Naming.{GrantMade, Holds, Stays};
 ghost use Rattle.server_rows.specs.Examples.{after, answers_from, at_epoch, fates, file_answers, file_steps, marks_reported, new_server, numbered, one_each, unlinking};
 
-/// The records tell what a metadata server knows: with that of a step after the earlier ones they tell what it knows after the step.
-/// The OSDs and the clock live in memory alone.
+/// The records say what a metadata server knows: with that of a step after the earlier ones they say what it knows after the step.
+/// The OSDs and the clock are in memory alone.
 pub fn records_tell_the_catalogue()
     ensures { (key : List ℕ) (records : List Record) (osds : List NodeId) (last now : ℕ)
         (event : Event) →
@@ -63,8 +63,8 @@ pub fn records_tell_the_catalogue()
         catalogue_of key (records ++ option_to_list step.turned.rec) ≡ step.mrc.catalogue }
 {}
 
-/// The records tell the state of a directory service: with that of a step after the earlier ones they tell the state after the
-/// step. So a service that starts from its records goes on where it was.
+/// The records determine the state of a directory service: with that of a step after the earlier ones they determine the state after
+/// the step. So a service that starts from its records goes on where it was.
 pub fn records_tell_the_directory()
     ensures { (records : List Record) (event : Event) →
         dir_of (records ++ option_to_list (step_of_dir (dir_of records) event).turned.rec) ≡
@@ -93,7 +93,7 @@ pub fn changes_are_done_or_refused()
 {}
 
 /// Each capability that a metadata server grants, also one that it grants again, names a file that the server made, at the place
-/// where it was made, and what was made stays so. This is so of a server that starts from its records, and after each of its steps.
+/// where it was made, and what was made stays so. This holds of a server that starts from its records, and after each of its steps.
 pub fn capabilities_name_made_files()
     ensures start { (key : List ℕ) (records : List Record) → Holds (catalogue_of key records) }
     ensures step { (key : List ℕ) (mrc : MrcState) (reading : ℕ) (happens : Event) →

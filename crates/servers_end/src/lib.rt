@@ -1,5 +1,5 @@
-//! A served DIR or MRC: at most one message to itself comes of an event, an answer, and nothing comes of that. What they tell and keep
-//! is within the limits by `server_limits`. Definitions and theorems alone; nothing runs here.
+//! A served DIR or MRC: at most one message to itself comes of an event, an answer, and nothing comes of that. What they report and
+//! keep is within the limits by `server_limits`. Definitions and theorems alone; nothing runs here.
 #![tactic(auto)]
 
 ghost use Rattle.std.specs.Prelude.{◌≤◌, ℕ, List, length};

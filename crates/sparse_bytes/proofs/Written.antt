@@ -1,4 +1,4 @@
--- What was written tells the bytes, step by step.
+-- What was written determines the bytes, step by step.
 use Rattle.std.proofs.Common.{◌≡◌, ◌≢◌, ◌∙◌, ℕ, ◌+◌, ◌-◌, ◌<◌, ◌≤◌, ◌⊎◌, inl, inr, ⊎_elim, true, false, List, [], ◌∷◌, ◌++◌, length, get_or, take, drop, Option, Some, None, refl, sym, ap, arith}
 use Rattle.std.specs.Prelude.{max, min, cond}
 use Rattle.std.specs.Option.{unwrap_or}

@@ -8,7 +8,7 @@ use Rattle.std.specs.BTreeMap.{BTreeMap, get}
 abbrev pub byte_at : BTreeMap ℕ ℕ → ℕ → ℕ
 byte_at written place = unwrap_or (get nat_cmp written place) 0
 
--- The size and the written bytes tell these bytes; after them none is written but zeros.
+-- The size and the written bytes determine these bytes; after them none is written but zeros.
 pub record Tells (size : ℕ) (written : BTreeMap ℕ ℕ) (bytes : List ℕ) : Type 0 where
   pub long : length bytes ≡ size
   pub same : (place : ℕ) → byte_at written place ≡ get_or bytes place 0

@@ -26,7 +26,7 @@ impl SparseBytes {
         }
     }
 
-    /// Puts the bytes at a place, with zeros up to it. An error is want of memory.
+    /// Puts the bytes at a place, with zeros up to it. An error means that memory ran out.
     pub fn write(&mut self, at: u128, bytes: &[u8]) -> Result<(), AllocError>
         requires room { at + length bytes.now < 2 ^ 128 }
         ensures { OnOk result ((content : List ℕ) →
@@ -40,7 +40,7 @@ impl SparseBytes {
         Ok(())
     }
 
-    /// Cuts the bytes to a size, or fills them up to it with zeros. An error is want of memory.
+    /// Cuts the bytes to a size, or fills them up to it with zeros. An error means that memory ran out.
     pub fn resize(&mut self, size: u128) -> Result<(), AllocError>
         ensures { OnOk result ((content : List ℕ) →
             Tells self.old.size self.old.written content →

@@ -52,7 +52,7 @@ rewritten =
     ∷ (thrice, Stands (record { gate = 83; bytes = start 1 } ∷ []))
     ∷ []
 
--- a superblock that can't stand there
+-- a superblock that can't be there
 abbrev pub unsound : List Row
 unsound =
     -- an area before the base; one outside; two slots with one number

@@ -108,7 +108,7 @@ pub data Seen : Type 0 where
   -- a node is asked in a call, which begins or goes on
   begins : ℕ → ℕ → Seen
   asks : ℕ → ℕ → Seen
-  -- the metadata server is told a truncate epoch and a size
+  -- a truncate epoch and a size are reported to the metadata server
   reports : ℕ → ℕ → ℕ → Seen
   -- a call is done: the count, the size that is known of the file, and how many bytes were read
   done : ℕ → ℕ → ℕ → ℕ → Seen

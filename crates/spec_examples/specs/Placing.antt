@@ -7,7 +7,7 @@ use Rattle.replica_lists.specs.Picking.{picked}
 use Rattle.spec_examples.specs.Values.{node}
 use Rattle.spec_examples.specs.ClientScenes.{size_at}
 
--- a file's number, how many OSDs it wants, and the ids that it gets of 7, 3, 9 and 5
+-- a file's number, how many OSDs it asks for, and the ids that it gets of 7, 3, 9 and 5
 abbrev pub Pick : Type 0
 Pick = ℕ × ℕ × List ℕ
 

@@ -163,7 +163,7 @@ a_file = answer.Row row_kind.File
 
 abbrev placed : List Placed
 placed =
-    -- a volume is made once, a file wants OSDs, and rights are tested
+    -- a volume is made once, a file needs OSDs, and rights are tested
     ann 0 (ask.Mkdir (codes "/v") (octal 7 5 5)) answer.Done kept
     ∷ ann 0 (ask.Mkdir (codes "/v") (octal 7 5 5)) exists kept
     ∷ ann 0 (create (codes "/v/a") 3) (too_few 0) kept
@@ -290,7 +290,7 @@ placed =
     ∷ ann 606000 (report (first 2 606000 2) 2 12) (denied denial.Expired) aside
     ∷ ann 606000 (ask.Stat (codes "/v/a")) (a_file 1 1 (octal 6 4 4) (sizes 2 11)) aside
     ∷ ann 606000 (ask.Grant (codes "/v/a") 2) (answer.Granted (first 2 1206001 2) (sizes 2 11)) aside
-    -- what is taken out, and made anew
+    -- what is taken out, and made again
     ∷ ann 700000 (ask.Unlink (codes "/v/a")) answer.Done kept
     ∷ ann 700000 (report (first 2 1206001 2) 2 20) not_found aside
     ∷ ann 700000 (ask.Stat (codes "/v/a")) not_found aside
@@ -320,7 +320,7 @@ rows = numbered 0 placed
 abbrev pub places : List Mark
 places = made_on 1000000 (1 ∷ 2 ∷ []) ∷ made_on 1000001 (2 ∷ []) ∷ made_on 1000002 (1 ∷ []) ∷ []
 
--- what steps tell and record, and the files that they mark
+-- what steps send and record, and the files that they mark
 abbrev pub seen : List MrcStep → List (List Msg × Option (List (NodeId × ℕ × List NodeId))) × List Mark
 seen steps = (map seen_in steps, flat_map (λ step. step.turned.marks) steps)
 

@@ -132,7 +132,7 @@ numbers =
     ∷ (asks 10 5 5000 (mkdir (codes "/v")), done, None)
     ∷ (asks 10 5 5000 (ask.Stat (codes "/w")), done, None)
     ∷ (asks 10 4 5000 (mkdir (codes "/w")), [], None)
-    -- what isn't recorded leaves the last number, and is worked out anew each time
+    -- what isn't recorded leaves the last number, and is worked out again each time
     ∷ (asks 10 6 5000 (ask.Stat (codes "/v")), directory 493, None)
     ∷ (asks 10 6 5000 (ask.Chmod (codes "/v") 448), done, on [])
     ∷ (asks 10 5 5000 (ask.Stat (codes "/v")), [], None)

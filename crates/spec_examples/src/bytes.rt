@@ -36,7 +36,7 @@ pub fn frames_have_bytes()
         map (λ row. row.3) rows }
 {}
 
-/// Entries have their lines, and of the journal of another program its first eight bytes are told.
+/// Entries have their lines, and of the journal of another program its first eight bytes are reported.
 #[tactic(auto, unfolding(crate::specs::Texts::texts))]
 pub fn entries_have_lines()
     ensures entries { map (λ row. entry_text row.0) entries ≡ map (λ row. row.1) entries }
@@ -53,7 +53,7 @@ pub fn records_have_bytes()
     ensures others { map recorded others ≡ replicate 6 (Err BadRecord) }
 {}
 
-/// Records tell the last start and the body that was put last. A promise may come again, and none below it.
+/// Records determine the last start and the body that was put last. A promise can come again, and none below it.
 #[tactic(auto, unfolding(crate::specs::Records::records))]
 pub fn records_are_folded()
     ensures start { fold_of (start ∷ []) ≡ record { boot = record { 0 = 1 }; files = [] } }

@@ -41,7 +41,7 @@ pub fn a_lease_is_renewed()
         ≡ held (record { proposer = lease.proposer 2; end = 6500; renewal = None }) }
 {}
 
-/// Node 3 starts anew between its promise and the Write, and its new boot knows nothing of the promise: each of two
+/// Node 3 starts again between its promise and the Write, and its new boot knows nothing of the promise: each of two
 /// proposers gets two acceptances of five, so neither holds the lease.
 pub fn a_promise_is_forgotten()
     ensures before { promises.came_after promises.start promises.before ≡

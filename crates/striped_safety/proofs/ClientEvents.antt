@@ -98,7 +98,7 @@ module _ (vol : List ℕ) (number : ℕ) (location : Location) (who : NodeId) (o
   abbrev more : List Entry
   more = map (entry_of node.id) step.turned.marks
 
-  -- another client: what it asks and tells isn't on the file
+  -- another client: what it asks and reports isn't on the file
   pub stranger : (m : StripedWorld) → Follows (setting_of vol number location who) w was m → node.id.0 ≢ who.0 → (n : ℕ) → HasBegunOn number w.entries (id_of node.id n) → ⊥
   stranger m follows other n begun = other (ap (λ (x : NodeId). x.0) (follows.alone (id_of node.id n) begun))
 
@@ -139,7 +139,7 @@ module _ (vol : List ℕ) (number : ℕ) (location : Location) (who : NodeId) (o
           let begun = ask_begun w.entries node.id to j request n capability asked it.0 (sym (ap (λ (x : Msg). x.payload) e) ∙ content) in
           it.1 (subst (λ (f : FileId). HasBegunOn f.number w.entries (id_of node.id j)) file begun.1)
 
-  -- what is told by who has begun nothing on it
+  -- what a node reports that has begun nothing on it
   pub aside_told : (asks_of : ℕ → Request → Type 0) → ((n : ℕ) (asked : Request) → asks_of n asked → HasBegunOn number w.entries (id_of node.id n) → ⊥) → (happens : Event) → Tells asks_of happens step.turned.marks
       → AreAside number w.entries (map (entry_of node.id) step.turned.marks)
   aside_told asks_of known happens tells = at step.turned.marks tells

@@ -84,7 +84,7 @@ ends_badly (result.Registry told) not = tt
 -- ---- nothing of the file is joined
 
 module _ (s : Setting) (es : List Entry) (m : StripedWorld) (c : WholeClient) (made : MadeCall) (capability : Capability) (asked : Op) (is : Waits s es m c made capability asked) (node : NodeId) where
-  -- what is told is aside, and nothing is sent
+  -- what is reported is aside, and nothing is sent
   pub rest_aside : (file : ℕ) (n : Next) → NoMore n → AreAside file es (map (entry_of node) (rows.marks_of made n))
   rest_aside file next.Wait more = none_aside file es
   rest_aside file (next.Ask t) more = absurd more

@@ -88,7 +88,7 @@ unfolding stepped
 waiting_step node times c reading happens made target deadline is waits =
     ap (rows.goes_on_with node times c reading happens) is ∙ ap (rows.goes_on node times c reading happens made) waits
 
--- an Ok that is told ends this call
+-- an Ok that is reported ends this call
 done_is : (node who : NodeId) (n k count : ℕ) (how : Outcome) (bytes : List ℕ) → ok_entry (id_of who k) count bytes ≡ entry.Done node n how → (who ≡ node) × (k ≡ n) × (outcome.Ok count bytes ≡ how)
 done_is node who n k count how bytes is = (cc is, cc is, cc is)
 
@@ -368,7 +368,7 @@ module _ (vol : List ℕ) (number : ℕ) (location : Location) (who : NodeId) (o
       own_id : node.id ≡ who
       own_id = same_node node.id who mine
 
-      -- what comes to it tells of no mark above its own
+      -- what comes to it reports no mark above its own
       grants : EventMarked (IsWithin m.mark number) happens
       grants =
           subst (λ (mark : SizeMark). EventMarked (IsWithin mark number) happens) (mark_is (held_of c.held number) m.mark at.mark)

@@ -159,7 +159,7 @@ IsUnborn m = (m.next ≡ 1) × (m.runs ≡ None) × (m.mark ≡ record { epoch =
 
 -- A world of the file and the client is what a world shows, in the midst of a line with the messages of a node to itself that it hasn't
 -- handled: it has the members, the asks, and each Ok of a member; no other client has begun a call on the file; the operations that
--- ended well and the one that runs are those that have begun; what was read is told; and the client is as far.
+-- ended well and the one that runs are those that have begun; what was read is reported; and the client is as far.
 pub record Follows (s : Setting) (w : World) (own : List Msg) (m : StripedWorld) : Type 0 where
   pub stands : Stands s m
   pub members : (place : ℕ) → place < width_of s → m.members place ≡ member_seen (nodes_seen s.file w (node_at s place).0)

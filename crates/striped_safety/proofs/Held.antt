@@ -14,7 +14,7 @@ use Rattle.striped_safety.proofs.Follows.{MarkIs}
 abbrev none_written : SizeMark
 none_written = record { epoch = 0; size = 0 }
 
--- a mark that tells of no byte changes none
+-- a mark of epoch 0 and size 0 changes none
 merged_none : (mark : SizeMark) → merged mark (record { epoch = 0; size = 0 }) ≡ mark
 merged_none mark = at (is_smaller mark (record { epoch = 0; size = 0 })) refl
   where

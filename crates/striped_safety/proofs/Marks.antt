@@ -54,7 +54,7 @@ pub record ClientWithin (number : ℕ) (bound : SizeMark) (c : WholeClient) : Ty
   pub made : MadeIs (RequestMarked (IsWithin bound number)) c.made
   pub stage : StagesFit c.made
 
--- Each mark of the file is at most this one: in messages, in what a metadata server's records tell, and with clients.
+-- Each mark of the file is at most this one: in messages, in what a metadata server's records say, and with clients.
 pub record AllWithin (number : ℕ) (bound : SizeMark) (w : World) (own : List Msg) : Type 0 where
   pub sent : (k : Msg) → Has k (own ++ messages w) → PayloadMarked (IsWithin bound number) k.payload
   pub records : (n : ℕ) (node : Node) → node_in w.nodes n ≡ Some node → node.role ≡ role.Mrc → Marked (IsWithin bound number) (catalogue_of world_key node.kept)
@@ -223,7 +223,7 @@ carried number who w after own own_after t are alone = record { running = λ nod
 
 -- ---- records of metadata servers
 
--- a metadata server's records tell what they told, or there are none
+-- a metadata server's records say what they said before, or there are none
 abbrev pub RecordsAre : World → World → Type 0
 RecordsAre w after =
     (n : ℕ) (node : Node) → node_in after.nodes n ≡ Some node → node.role ≡ role.Mrc

@@ -224,7 +224,7 @@ module _ (vol : List ℕ) (number : ℕ) (location : Location) (who : NodeId) (o
           step = step;
         }
 
-    -- what the step tells
+    -- what the step sends
     out_of : ((k : Msg) → Has k outs → Has k (step_at node r o (event.Deliver msg)).turned.outs) → (k : Msg) → Has k outs → Has k (step_of_file (site_at node r o) (file_seen (id_in vol number) o) msg.from msg.payload).turned.outs
     out_of fewer k h = subst (λ (x : OsdStep). Has k x.turned.outs) (is_whole (id_in vol number) node r o msg awake concerns) (fewer k h)
 

@@ -69,7 +69,7 @@ module _ (s : Setting) (w : World) (node : Node) (r : Running) (o : OsdState) (h
         absent = put_absent w.nodes node there s.client.0 its.found;
       }
 
-  -- it leaves the file as it is, and tells of it nothing that counts
+  -- it leaves the file as it is, and sends nothing of it that counts
   pub step_rests : (was own : List Msg) → ((m : Msg) → Has m own → Has m was) → ((m : Msg) → Has m outs → file_concerned m.payload ≡ Some s.file → IsNothing m.payload)
       → file_seen s.file (step_at node r o happens).osd ≡ file_seen s.file o → IsNotOf s.file (step_at node r o happens).turned.rec → Rests s w (stepped w node r o happens outs) was (own ++ to_itself node.id outs)
   step_rests was own within out state rec =

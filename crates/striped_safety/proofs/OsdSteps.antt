@@ -1,4 +1,4 @@
--- what a step of an OSD is, and what it tells: it begins no call, and ends none
+-- what a step of an OSD is, and what it reports: it begins no call, and ends none
 use Rattle.std.proofs.Common.{◌≡◌, ℕ, inl, inr, List, [], ◌∷◌, map, refl, ap, sym, ◌∙◌, subst, Option, Some, None}
 use Rattle.std.specs.Prelude.{◌⊎◌, max}
 use Rattle.xt_base.specs.declared.ids.NodeId.{NodeId}

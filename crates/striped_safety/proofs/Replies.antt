@@ -1,4 +1,4 @@
--- An Ok that an OSD tells is of a known file, and of a call that has begun on it
+-- An Ok that an OSD sends is of a known file, and of a call that has begun on it
 use Rattle.std.proofs.Common.{◌≡◌, ℕ, inl, inr, List, [], ◌∷◌, ◌++◌, refl, ap, sym, ◌∙◌, subst, Some, Bool, true, false}
 use Rattle.std.specs.Prelude.{◌⊎◌, cond, Option, None}
 use Rattle.xt_base.specs.declared.ids.NodeId.{NodeId}
@@ -232,7 +232,7 @@ module _ (w : World) (was : List Msg) (node : Node) (r : Running) (s : OsdState)
       let marked = (subst (Said Q f.kept.file.number (wake_step site f).turned.marks m.to) is said).1 in
       subst (Has (mark.Answer f.kept.file.number (id_of m.to number) count bytes)) (wake_step_marks site f) marked
 
-  -- So is what an OSD tells in any step.
+  -- So is what an OSD sends in any step.
   pub osd_replies : (happens : Event) → Reaches w was node.id happens → (m : Msg) → Has m (step_at node r s happens).turned.outs → ReplyIs (known w) w.entries m.to m.payload
   osd_replies happens reaches m h = by_payload m.payload refl
     where

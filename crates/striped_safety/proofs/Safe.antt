@@ -54,7 +54,7 @@ module _ (w : World) (whole : Whole w []) (placed : ArePlaced w) where
       at : (location : Location) × (location_in file w.entries ≡ Some location) × (location.kind ≡ kind.Striped) → ReadsShow file w.entries
       at (location, told, of_kind) = by_fares follows.fares
         where
-          -- what is told of the file is known
+          -- what is reported of the file is known
           found : (f : PlacedFile) × (file_in (known w) file ≡ Some f) × (f.location ≡ location)
           found = by_table (file_in (known w) file) refl (sym (whole.fits.places file) ∙ told)
             where

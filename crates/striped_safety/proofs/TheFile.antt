@@ -1,4 +1,4 @@
--- a file by its number: what is told and known of it
+-- a file by its number: what is reported and known of it
 use Rattle.std.proofs.Common.{◌≡◌, ◌∙◌, ℕ, refl, sym, ap, Option, Some, None, List}
 use Rattle.xt_base.specs.declared.ids.FileId.{FileId}
 use Rattle.xt_messages.specs.declared.file.Location.{Location}
@@ -10,7 +10,7 @@ use Rattle.world_runs.proofs.Places.{AreTold, place_of}
 use Rattle.world_runs.proofs.Tables.{file_in-id}
 use Rattle.striped_safety.proofs.Follows.{id_in, IsListed}
 
--- All that is told and known of the file of this number is that it is this one, at this place.
+-- All that is reported and known of the file of this number is that it is this one, at this place.
 pub record IsTheFile (vol : List ℕ) (number : ℕ) (location : Location) (w : World) : Type 0 where
   pub told : (l : Location) → location_in number w.entries ≡ Some l → l ≡ location
   pub known : (file : FileId) (l : Location) → IsKnown (known w) file l → file.number ≡ number → (file ≡ id_in vol number) × (l ≡ location)

@@ -359,7 +359,7 @@ server_replies : (files : List PlacedFile) (es : List Entry) (to : NodeId) (cont
 server_replies files es to (payload.Reply number file answer) is = absurd is
 server_replies files es to _ is = tt
 
--- what is told and granted in a step of a node
+-- what is reported and granted in a step of a node
 module _ (w : World) (was own : List Msg) (node : Node) (r : Running) (next : Core) (turned : Turned) (outs : List Msg) (within : (m : Msg) → Has m own → Has m was) where
   turn_replies : ((m : Msg) → Has m outs → ReplyIs (known w) w.entries m.to m.payload) → RepliesAre w was
       → RepliesAre (after_turn w node (record r { core = next }) (record turned { outs = outs })) (own ++ to_itself node.id outs)

@@ -43,7 +43,7 @@ mark_made s xs = record { epoch = epoch_made xs; size = length (content_made s x
 abbrev pub AreOld : FileHead → Type 0
 AreOld head = (o : ℕ) (v : Stamp) → o < NO_OBJECT → version_of head.versions o ≡ Some v → v.count ≤ head.stamp.count
 
--- A member after these operations: its objects lie in their content; its mark is of their epoch, and tells of no byte past the end; it
+-- A member after these operations: its objects lie in their content; its mark is of their epoch, and its size isn't past the end; it
 -- has had each of them that affects it, and none of this number or above.
 pub record IsAfter (s : Setting) (xs : List Asked) (bound place : ℕ) (m : Member) : Type 0 where
   pub old : AreOld m.head

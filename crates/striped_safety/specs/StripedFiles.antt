@@ -1,4 +1,4 @@
--- what a trace owes of a striped file that one client alone uses
+-- what must hold in a trace of a striped file that one client alone uses
 use Rattle.std.specs.Prelude.{ℕ, Bool, true, false, Option, Some, None, List, ◌≡◌, Contains}
 use Rattle.std.specs.List.{filter_map}
 use Rattle.xt_base.specs.declared.ids.NodeId.{NodeId}

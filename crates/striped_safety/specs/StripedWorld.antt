@@ -169,7 +169,7 @@ after s w ends = record w { done = done_with w.done w.runs; runs = None; told = 
 abbrev pub HasSame : (ℕ → Stamp → List ℕ) → Member → Type 0
 HasSame body m = (object : ℕ) → has_of (with_bodies body m) object ≡ has_of m object
 
--- When a move may come. A call begins when the one before it has ended well; it has a number above all earlier ones, and an
+-- When a move is allowed. A call begins when the one before it has ended well; it has a number above all earlier ones, and an
 -- operation within the limits. A member does an operation that stays in its object; it may refuse any. What members forget is
 -- nothing that they have.
 pub record MayBegin (s : Setting) (w : StripedWorld) (a : Asked) : Type 0 where

@@ -1,4 +1,4 @@
--- what may stand in a line of a schedule and in an entry of a trace: the limits of their values
+-- what a line of a schedule and an entry of a trace may hold: the limits of their values
 use Rattle.std.specs.Prelude.{ℕ, ◌≡◌, ◌<◌, ◌≤◌, ◌^◌, Bool, true, false, List, [], ◌∷◌, length}
 use Rattle.std.specs.List.{AllByRecursion}
 use Rattle.xt_base.specs.declared.ids.NodeId.{NodeId}
@@ -67,11 +67,11 @@ abbrev pub sets_times : Line → Bool
 sets_times (line.Times lease drift) = true
 sets_times _ = false
 
--- a line that may stand after the first one
+-- a line that may follow the first one
 abbrev pub FitsLater : Line → Type 0
 FitsLater l = FitsLine l × (sets_times l ≡ false)
 
--- Lines within the limits; the times stand first, if anywhere.
+-- Lines within the limits; the times come first, if at all.
 abbrev pub AreLines : List Line → Type 0
 AreLines [] = Unit {0}
 AreLines (l ∷ later) = FitsLine l × AllByRecursion FitsLater later

@@ -136,7 +136,7 @@ holds moment node file = holds_as (times_of moment).drift (standing node file mo
 
 -- The order of writes.
 
--- the write that a node says stands at this position: by a commit, or as the last one where it became active
+-- the write that a node reports at this position: by a commit, or as the last one where it became active
 pub record Claim : Type 0 where
   pub count : ℕ
   pub id : OpId
@@ -158,6 +158,6 @@ write_order file moment = fold (λ order e. order_by order (claim_on file e)) []
 abbrev pub content_at : ℕ → ℕ → List Entry → List ℕ
 content_at stripe file moment = content_of stripe (filter_map (operation_begun file moment) (write_order file moment))
 
--- the write stands at this position of the order, counted from 1
+-- the write is at this position of the order, counted from 1
 abbrev pub HasPosition : ℕ → List Entry → OpId → ℕ → Type 0
 HasPosition file entries id position = (1 ≤ position) × (slice_get (write_order file entries) (position - 1) ≡ Some id)

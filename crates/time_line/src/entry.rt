@@ -6,9 +6,9 @@ use xt_messages::{Call, Location, Outcome};
 pub enum Halt {
     /// Between two steps.
     Idle,
-    /// In an append, and its record stands. Nothing else of that step came out.
+    /// In an append, and its record is kept. Nothing else of that step came out.
     Kept,
-    /// In an append, and its record doesn't stand. Nothing of that step came out.
+    /// In an append, and its record is lost. Nothing of that step came out.
     Lost,
     /// In the sending: some of the step's messages came out.
     Cut,

@@ -49,7 +49,7 @@ entries_behind before (k ∷ ks) (x ∷ xs) more p q e =
     let rest = entries_behind (before + 1) ks xs more p.1 q.1 same.1 in
     (rest.0, ap (λ (m : Entry). m ∷ ks) head ∙ ap (λ (ms : List Entry). x ∷ ms) rest.1, rest.2)
 
--- what is so of the entries that are left
+-- what holds of the entries that are left
 of_trace-rest : (before : ℕ) (entries rest : List Entry) → AreOfTrace before (entries ++ rest) → AreOfTrace (before + length entries) rest
 of_trace-rest before [] rest all = subst (λ (n : ℕ). AreOfTrace n rest) (let e : before ≡ before + 0 = omega arith in e) all
 of_trace-rest before (x ∷ xs) rest all =

@@ -1,4 +1,4 @@
--- what is found of a trace, and what is told of it
+-- what is found of a trace, and what is reported of it
 use Rattle.std.proofs.Common.{◌≡◌, ◌≢◌, ◌∙◌, ℕ, length, Option, List, [], refl, sym, subst, inl, inr, append-nil}
 use Rattle.xt_messages.specs.declared.status.Status.{Status}
 use Rattle.xt_messages.specs.declared.status.Status.TheVariants as status
@@ -67,7 +67,7 @@ pub said_unput : (entries : List Entry) (s : Status) → IsSaid entries s → Is
 said_unput entries (status.SinkFault count) said = said
 said_unput entries _ said = tt
 
--- a status that isn't good is told by its last line
+-- a status that isn't good is reported by its last line
 line_text : (s : Status) → s ≢ status.Done → last_line s ≡ text_of s
 line_text status.Done other = absurd (other refl)
 line_text _ other = refl
@@ -78,7 +78,7 @@ finished_told old new s given other (inr (inl (count, same, (front, put, is_fron
     inr (inl (count, same, (front, put, (is_front.0, sym (line_text s other) ∙ is_front.1, is_front.2))))
 finished_told old new s given other (inr (inr (same, put))) = inr (inr (same, other, put))
 
--- a status that was told, or that the telling gave
+-- a status that was reported, or that reporting it gave
 pub told_all : (source_before source_after sink_before sink_after : ℕ) (held_before held_after : Option (List ℕ)) (s given : Status)
     → IsTold held_before held_after s given
     → CausesEnd sink_before sink_after given

@@ -92,7 +92,7 @@ whole old mid new es room so_far took end =
       end = end;
     }
 
--- after the first entry none tells the times
+-- after the first entry none gives the times
 tells_none : (first : Bool) (e : Entry) → first ≡ false → IsInPlace first e → times_told e ≡ None
 tells_none true e later place = absurd cc
 tells_none false (entry.Times lease drift) later place = absurd (let never : false ≡ true = place in cc)

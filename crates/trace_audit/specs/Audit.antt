@@ -14,7 +14,7 @@ use Rattle.schedule_lines.specs.Fronts.{PutsFront}
 use Rattle.trace_audit.specs.declared.TheConstants.{TRACE_BYTES}
 use Rattle.trace_audit.specs.NextEntry.{StopsAudit}
 
--- each entry is one of a trace, after so many others; only the first may tell the times
+-- each entry is one of a trace, after so many others; only the first may give the times
 abbrev pub AreOfTrace : ℕ → List Entry → Type 0
 AreOfTrace before [] = Unit {0}
 AreOfTrace before (e ∷ es) = IsEntryAt (before == 0) e × AreOfTrace (before + 1) es
@@ -50,7 +50,7 @@ IsTold old new s given =
     ⊎ ((count : ℕ) × (given ≡ status.SinkFault count) × PutsFront old new (text_of s))
     ⊎ ((given ≡ status.OutOfMemory) × (s ≢ status.Done) × Puts old new [])
 
--- An audit: the entries that it read, the bytes that it took after their text, and why it ended, which it tells.
+-- An audit: the entries that it read, the bytes that it took after their text, and why it ended, which it reports.
 pub record IsAudit (source_before source_after sink_before sink_after : Option (List ℕ)) (given : Status) : Type 0 where
   pub entries : List Entry
   pub trace : IsTrace entries

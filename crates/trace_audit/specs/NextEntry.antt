@@ -50,7 +50,7 @@ IsNextEntry before room old new bytes (next.Entry e) =
 IsNextEntry before room old new bytes next.End = Takes old new [] × IsAtEnd new
 IsNextEntry before room old new bytes (next.Stopped s) = (taken : List ℕ) × Takes old new taken × StopsAudit before room taken new s
 
--- the source's count of faults rose exactly where it is told to have failed, with that count
+-- the source's count of faults rose exactly where the status reports that it failed, with that count
 abbrev pub CountsStop : ℕ → ℕ → Status → Type 0
 CountsStop before after (status.SourceFault count) = Rose before after × (count ≡ after)
 CountsStop before after _ = after ≡ before

@@ -20,7 +20,7 @@ use xt_messages::Status;
 /// What is put where the trace is safe.
 const SAFE: &[u8] = b"safe\n";
 
-/// The status of the verdict on these entries, or want of memory.
+/// The status of the verdict on these entries, or out of memory.
 fn judged<R: Threads + Sync, G: Gate>(rt: &R, alloc: Global, entries: &[Entry], gate: &G) -> Status
     requires { AreOfTrace 0 entries.now }
     ensures { IsSaid entries.now result }
@@ -87,7 +87,7 @@ pub fn audit_text<R: Threads + Sync, S: Source, K: Sink, G: Gate>(
     // The trace is that of the lines that were taken, and what is put is the verdict on it, or why there is none.
     ensures audit { IsAudit (S.left src.old) (S.left src.new) (K.held out.old) (K.held out.new)
         result }
-    // A fault ends the audit and is told, where its object's count rose; with any other status no count did.
+    // A fault ends the audit and is reported, where its object's count rose; with any other status no count did.
     ensures cause { HasCause (S.fault_count src.old) (S.fault_count src.new) (K.fault_count out.old)
         (K.fault_count out.new) result }
     // A trace within the limits is judged, where neither the source nor the sink fails, unless memory runs out.

@@ -2,7 +2,8 @@
 //!
 //! `audit_text` promises that what was taken is the text of the entries, or of those before the line that ended the audit;
 //! that `safe` is put exactly where their trace is safe, and else the least entry by which it is broken and the least clause
-//! there; that each status comes where it is due; and that a fault ends the audit, and is told only where its object's count rose.
+//! there; that each status comes where it is due; and that a fault ends the audit, and is reported only where its object's count
+//! rose.
 #![tactic(auto)]
 
 mod auditing;

@@ -28,7 +28,7 @@ fn all_given(
     Ok(verdicts)
 }
 
-/// The verdict on a trace, whose files are judged beside each other, for every gate. An error is want of memory.
+/// The verdict on a trace, whose files are judged beside each other, for every gate. An error means that memory ran out.
 pub fn audit_halves<R: Threads + Sync, G: Gate>(
     rt: &R,
     alloc: Global,

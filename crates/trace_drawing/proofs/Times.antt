@@ -1,4 +1,4 @@
--- the times that a trace tells first, as they are looked for
+-- the times that a trace gives first, as they are looked for
 use Rattle.std.proofs.Common.{◌≡◌, ℕ, ◌-◌, ◌≤◌, ◌<◌, List, [], ◌∷◌, Option, None, length, take, drop, get_or, refl, sym, ap, ◌∙◌, arith}
 use Rattle.std.proofs.Math.Seq.{take-length}
 use Rattle.std.specs.Option.{option_or}
@@ -14,7 +14,7 @@ untold : (e : Entry) → ((lease drift : ℕ) → e ≡ entry.Times lease drift 
 untold (entry.Times lease drift) other = absurd (other lease drift refl)
 untold _ other = refl
 
--- an entry that doesn't tell them is passed over
+-- an entry that doesn't give them is passed over
 pub passed :
     (rest : List Entry) (e : Entry) → 1 ≤ length rest → e ≡ get_or rest 0 e → ((lease drift : ℕ) → e ≡ entry.Times lease drift → ⊥)
     → first_times (take (length rest - 1) (drop 1 rest)) ≡ first_times rest
@@ -24,7 +24,7 @@ passed (x ∷ rest) e some is other =
     ap first_times (take_all rest (length (x ∷ rest) - 1) (omega arith))
     ∙ ap (λ (told : Option TimeSettings). option_or told (first_times rest)) (sym (ap times_told (sym is) ∙ untold e other))
 
--- an entry that tells them is the first
+-- an entry that gives them is the first
 pub told :
     (rest : List Entry) (e : Entry) (lease drift : ℕ) → 1 ≤ length rest → e ≡ get_or rest 0 e → e ≡ entry.Times lease drift
     → (or_defaults (first_times rest)).drift ≡ drift
@@ -33,7 +33,7 @@ told [] e lease drift some is times = absurd (omega (arith, some))
 told (x ∷ rest) e lease drift some is times =
     ap (λ (y : Entry). (or_defaults (option_or (times_told y) (first_times rest))).drift) (sym is ∙ times)
 
--- where no entry is left none tells them
+-- where no entry is left none gives them
 pub none : (rest : List Entry) → length rest < 1 → first_times rest ≡ None
 unfolding first_times
 none [] few = refl

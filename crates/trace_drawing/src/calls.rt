@@ -5,7 +5,7 @@ use xt_messages::{Call, Outcome};
 /// What becomes of a write that was issued.
 #[derive(Clone, Copy)]
 pub(crate) enum Fate {
-    /// No entry tells.
+    /// No entry says.
     Open,
     /// The entry says that a majority keeps it.
     Kept,
@@ -148,7 +148,7 @@ pub(crate) fn is_ok(entry: &Entry) -> bool {
     )
 }
 
-/// What an entry tells of the write of this id that was issued at this place of a file.
+/// What an entry says of the write of this id that was issued at this place of a file.
 fn fate_by(file: u64, count: u64, issued: OpId, at: usize, entry: &Entry) -> Fate {
     match entry {
         Entry::Commit {

@@ -42,7 +42,7 @@ impl From<OutOfMemory> for DrawErr {
     }
 }
 
-/// How much clocks may differ in a trace that doesn't tell it, in milliseconds.
+/// How much clocks may differ in a trace that doesn't give it, in milliseconds.
 const DRIFT: u64 = 1_000;
 
 /// The narrowest paper, in pixels.

@@ -127,7 +127,7 @@ fn push_held(out: &mut Vec<u8>, end: u64) -> Result<(), OutOfMemory> {
     push_words(out, &[Word::Text(b"holds the lease to "), Word::Count(end)])
 }
 
-/// Whether a write of this id was issued at this place of the file before, and no majority was told to keep it.
+/// Whether a write of this id was issued at this place of the file before, and no entry says that a majority keeps it.
 fn is_found(entries: &[Entry], to: usize, file: u64, count: u64, id: OpId) -> bool {
     for at in 0..to.min(entries.len()) {
         if let Entry::Issue {

@@ -3,7 +3,7 @@ use std::alloc::Global;
 use time_line::Entry;
 use xt_base::{NodeId, OutOfMemory};
 
-/// The lane of a node: its ground, and where its line stands on it.
+/// The lane of a node: its ground, and where its line is on it.
 #[derive(Clone, Copy)]
 pub(crate) struct Lane {
     pub(crate) node: NodeId,

@@ -6,7 +6,7 @@ use crate::words::Word;
 use trace_shapes::{Colour, Point, Script, Style};
 use xt_base::OutOfMemory;
 
-/// What a legend tells.
+/// What a legend explains.
 #[derive(Clone, Copy)]
 enum Sample {
     Held,

@@ -1,4 +1,4 @@
--- A clock that no tick touches tells the same.
+-- A clock that no tick touches says the same.
 use Rattle.std.proofs.Common.{◌≡◌, ℕ, ◌+◌, ◌-◌, ◌≤◌, Bool, true, false, Option, Some, None, refl, sym, ap, ◌∙◌, arith}
 use Rattle.std.specs.Prelude.{◌==◌, ◌&&◌, if◌then◌else◌}
 use Rattle.xt_base.specs.declared.ids.NodeId.{NodeId}

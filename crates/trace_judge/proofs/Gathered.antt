@@ -23,7 +23,7 @@ pub none : (rest : List Entry) → length rest < 1 → rest ≡ []
 none [] few = refl
 none (x ∷ rest) few = absurd (omega (arith, few))
 
--- ---- what they tell
+-- ---- what they report
 
 or_assoc : {X : Type 0} (o p q : Option X) → option_or (option_or o p) q ≡ option_or o (option_or p q)
 or_assoc None p q = refl

@@ -166,7 +166,7 @@ write_on file made f object at bytes is same =
     ap (λ (c : Call). operation_on file (Some c)) is
     ∙ ap (λ b. if b then Some (op.Write object at bytes) else None) ((Decides-eqb f file).1 same)
 
--- ---- what is told
+-- ---- what is reported
 
 or_false : (b : Bool) → b ≡ (b || false)
 or_false true = refl

@@ -1,4 +1,4 @@
--- calls, ends and answers by their ids, as maps and sets tell them
+-- calls, ends and answers by their ids, as maps and sets give them
 use Rattle.std.specs.Prelude.{ℕ, Bool, ◌≡◌, Option, option_map, List}
 use Rattle.std.specs.Borrow.{Bor}
 use Rattle.std.specs.declared.cmp.Ordering.{Ordering}
@@ -40,6 +40,6 @@ id_told told = record { client = record { 0 = told.0.0 }; number = told.0.1 }
 abbrev pub has_answer : BTreeSet Told → Told → Bool
 has_answer answers told = contains answer_cmp answers told
 
--- the set tells which answers there were
+-- the set says which answers there were
 abbrev pub AreAnswers : BTreeSet Told → (OpId → ℕ → List ℕ → Bool) → Type 0
 AreAnswers answers answered = (told : Told) → has_answer answers told ≡ answered (id_told told) told.1.0 told.1.1.now

@@ -1,4 +1,4 @@
--- Shorter than how a node stands: a clock that no tick touches, with the sum of the ticks when it was told.
+-- Shorter than how a node stands: a clock that no tick touches, with the sum of the ticks when it was reported.
 use Rattle.std.specs.Prelude.{ℕ, Bool, false, ◌≡◌, ◌≤◌, ◌&&◌, ◌==◌, ◌+◌, ◌-◌, if◌then◌else◌, Option, Some, None}
 use Rattle.xt_base.specs.declared.ids.NodeId.{NodeId}
 use Rattle.time_line.specs.declared.entry.Entry.{Entry}
@@ -32,14 +32,14 @@ abbrev pub holds_at : ℕ → ℕ → Option Reading → Bool
 holds_at drift ticks None = false
 holds_at drift ticks (Some r) = is_before_end (r.clock + (ticks - r.ticks)) drift r.end
 
--- the reading tells how the node stands
+-- the reading says how the node stands
 abbrev pub TellsStanding : ℕ → Option Reading → Option RunningBoot → Type 0
 TellsStanding ticks None None = Unit {0}
 TellsStanding ticks None (Some s) = ⊥
 TellsStanding ticks (Some r) None = ⊥
 TellsStanding ticks (Some r) (Some s) = (r.ticks ≤ ticks) × (s.clock ≡ r.clock + (ticks - r.ticks)) × (s.end ≡ r.end)
 
--- Readings go on telling how nodes stand, and so who holds.
+-- Readings go on to say how nodes stand, and so who holds.
 pub record ReadingsTell : Type 0 where
   pub more :
       (node : NodeId) (file ticks : ℕ) (r : Option Reading) (s : Option RunningBoot) (e : Entry)

@@ -1,4 +1,4 @@
--- what an entry tells of a file, as the code has it
+-- what an entry reports of a file, as the code has it
 use Rattle.std.specs.Prelude.{ℕ, ◌+◌, ◌==◌, if◌then◌else◌, Bool, true, not, ◌||◌, Option, Some, None, option_map, List, length}
 use Rattle.std.specs.Borrow.{Bor}
 use Rattle.std.specs.BTreeSet.{BTreeSet}
@@ -18,7 +18,7 @@ claim_of claim = record { count = claim.count; id = claim.id }
 abbrev pub answer_of : Answer → pass.Answer
 answer_of answer = record { id = answer.id; count = answer.count; bytes = answer.bytes.now }
 
--- the call behind a reference, if there is one
+-- the call that a reference refers to, if there is one
 abbrev pub call_of : Option (Bor Call) → Option Call
 call_of call = option_map (λ c. c.now) call
 

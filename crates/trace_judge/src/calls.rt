@@ -26,7 +26,7 @@ impl<'a> Calls<'a> {
         }
     }
 
-    /// One entry more. An error is want of memory.
+    /// One entry more. An error means that memory ran out.
     #[tactic(auto, using(crate::proofs::Put::call_put))]
     pub fn take(&mut self, e: &'a Entry) -> Result<(), AllocError>
         ensures { OnOk result ((id : OpId) →
@@ -46,7 +46,7 @@ impl<'a> Calls<'a> {
         Ok(())
     }
 
-    /// The calls that begin in a trace. An error is want of memory.
+    /// The calls that begin in a trace. An error means that memory ran out.
     pub fn of(alloc: Global, entries: &'a [Entry]) -> Result<Calls<'a>, AllocError>
         ensures { IfOk result (λ calls. (id : OpId) →
             call_in calls.rows id ≡ begun id entries.now) }

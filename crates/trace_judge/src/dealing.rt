@@ -37,7 +37,7 @@ impl<'a> Model for DealtTrace<'a> {
 }
 
 impl<'a> DealtTrace<'a> {
-    /// Deals out a trace. An error is want of memory.
+    /// Deals out a trace. An error means that memory ran out.
     pub fn new(alloc: Global, entries: &'a [Entry]) -> Result<DealtTrace<'a>, AllocError>
         ensures { IfOk result (λ trace. trace ≡ entries.now) }
     {

@@ -26,7 +26,7 @@ fn is_on(file: u64, call: Option<&Call>) -> bool
     }
 }
 
-/// Notes an answer to a call that has begun on the file. An error is want of memory.
+/// Notes an answer to a call that has begun on the file. An error means that memory ran out.
 #[tactic(auto, using(crate::proofs::Put::answers_more, crate::proofs::Put::answers_same))]
 fn note<'a>(
     answers: &mut Answers<'a>,
@@ -46,7 +46,7 @@ fn note<'a>(
     Ok(())
 }
 
-/// Notes an answer, if there is one, to a call that has begun on the file. An error is want of memory.
+/// Notes an answer, if there is one, to a call that has begun on the file. An error means that memory ran out.
 pub fn note_answer<'a>(
     answers: &mut Answers<'a>,
     file: u64,
@@ -64,7 +64,7 @@ pub fn note_answer<'a>(
     }
 }
 
-/// Notes the end of a call, if there is one. An error is want of memory.
+/// Notes the end of a call, if there is one. An error means that memory ran out.
 pub fn note_end(ended: &mut Ids, end: Option<Answer>) -> Result<(), AllocError>
     ensures { OnOk result ((id : OpId) → has_id ended.new.set id ≡
         (has_id ended.old.set id || is_end id (option_map answer_of end.entry))) }

@@ -117,7 +117,7 @@ impl<'a> Judging<'a> {
         self.leases.readings.ticks = ticks;
     }
 
-    /// One entry more. An error is want of memory.
+    /// One entry more. An error means that memory ran out.
     pub fn take(&mut self, e: &'a Entry) -> Result<(), AllocError>
         requires room { self.old.leases.readings.ticks + 2 ^ 67 < 2 ^ 128 }
         ensures follows { OnOk result ((k : Kept) → Follows k self.old →

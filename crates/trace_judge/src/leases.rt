@@ -11,7 +11,7 @@ use std::alloc::{AllocError, Global};
 use time_line::Entry;
 use xt_base::NodeId;
 
-/// Who holds a file, as far as the entries so far tell: how each node stands to it, and the node that was the last to hold it.
+/// Who holds a file, as far as the entries so far say: how each node stands to it, and the node that was the last to hold it.
 #[derive(Drop)]
 pub struct Leases {
     pub drift: u64,
@@ -59,7 +59,7 @@ impl Leases {
         }
     }
 
-    /// One entry more; whether, if no two nodes held the file before, none do now. An error is want of memory.
+    /// One entry more; whether, if no two nodes held the file before, none do now. An error means that memory ran out.
     pub fn take(&mut self, e: &Entry) -> Result<bool, AllocError>
         requires room { self.old.readings.ticks + 2 ^ 67 < 2 ^ 128 }
         ensures drift { self.new.drift ≡ self.old.drift }

@@ -30,7 +30,7 @@ pub use verdict::{Verdict, judge};
 pub use whole::{audit, files_of, least};
 pub use writes::Writes;
 
-/// A clock that no tick touches, with the sum of the ticks when it was told, tells as well who holds the file.
+/// A clock that no tick touches, with the sum of the ticks when it was reported, says as well who holds the file.
 pub fn readings_tell()
     ensures { ReadingsTell }
 {}

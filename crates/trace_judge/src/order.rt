@@ -10,7 +10,7 @@ use crate::told::Claim;
 use std::alloc::{AllocError, Global};
 use xt_base::OpId;
 
-/// The writes of a file in order, as the claims so far tell.
+/// The writes of a file in order, as the claims so far report.
 #[derive(Drop)]
 pub struct Order {
     pub ids: Vec<OpId>,
@@ -67,7 +67,7 @@ impl Order {
         self.ids.len() as u64 == count && (count == 0 || self.is_at(claim.id, count))
     }
 
-    /// Appends the claim's write, where it is the next. An error is want of memory.
+    /// Appends the claim's write, where it is the next. An error means that memory ran out.
     #[tactic(auto, using(crate::proofs::Put::set_push))]
     fn append(&mut self, claim: Claim) -> Result<(), AllocError>
         ensures ids { OnOk result (self.new.ids.items ≡
@@ -83,7 +83,8 @@ impl Order {
         Ok(())
     }
 
-    /// One claim more, which appends its write where it is the next; whether the order bears the claim out. An error is want of memory.
+    /// One claim more, which appends its write where it is the next; whether the order agrees with the claim. An error means that
+    /// memory ran out.
     pub fn take(&mut self, claim: Claim) -> Result<bool, AllocError>
         ensures ids { OnOk result (self.new.ids.items ≡
             order_by self.old.ids.items (Some (claim_of claim))) }

@@ -15,14 +15,14 @@ use time_line::Entry;
 use xt_base::{NodeId, OpId};
 use xt_messages::{Call, Location};
 
-/// Where each file is that a trace tells; of two entries that tell it the first counts.
+/// Where each file is that a trace reports; of two entries that report it the first counts.
 #[derive(Drop)]
 pub struct Locations<'a> {
     pub rows: BTreeMap<u64, &'a Location>,
 }
 
 impl<'a> Locations<'a> {
-    /// One entry more. An error is want of memory.
+    /// One entry more. An error means that memory ran out.
     fn take(&mut self, e: &'a Entry) -> Result<(), AllocError>
         ensures { OnOk result ((file : ℕ) → location_at self.new.rows file ≡
             option_or (location_at self.old.rows file) (location_told file e.now)) }
@@ -35,7 +35,7 @@ impl<'a> Locations<'a> {
         Ok(())
     }
 
-    /// The locations that a trace tells. An error is want of memory.
+    /// The locations that a trace reports. An error means that memory ran out.
     pub fn of(alloc: Global, entries: &'a [Entry]) -> Result<Locations<'a>, AllocError>
         ensures { IfOk result (λ locations. (file : ℕ) →
             location_at locations.rows file ≡ location_in file entries.now) }
@@ -51,7 +51,7 @@ impl<'a> Locations<'a> {
         Ok(locations)
     }
 
-    /// Where the file is, if that is told.
+    /// Where the file is, if that is reported.
     pub fn get(&self, file: u64) -> Option<&'a Location>
         ensures { option_map (λ l. l.now) result ≡ location_at self.now.rows file }
     {
@@ -102,7 +102,7 @@ pub struct Places {
 }
 
 impl Places {
-    /// One place more. An error is want of memory.
+    /// One place more. An error means that memory ran out.
     fn put(&mut self, file: u64, place: usize) -> Result<(), AllocError>
         ensures { OnOk result ((f : ℕ) → places_in self.new.rows f ≡
             (if file == f then places_in self.old.rows f ++ place ∷ [] else places_in self.old.rows f)) }
@@ -111,7 +111,7 @@ impl Places {
         Ok(())
     }
 
-    /// One entry more, of a trace with these calls. An error is want of memory.
+    /// One entry more, of a trace with these calls. An error means that memory ran out.
     fn take(&mut self, calls: &Calls, e: &Entry, place: usize) -> Result<(), AllocError>
         ensures { OnOk result ((file : ℕ) → places_in self.new.rows file ≡
             (if is_of (λ id. call_in calls.now.rows id) file e.now
@@ -123,7 +123,7 @@ impl Places {
         }
     }
 
-    /// The places of each file's entries in a trace with these calls. An error is want of memory.
+    /// The places of each file's entries in a trace with these calls. An error means that memory ran out.
     pub fn of(alloc: Global, entries: &[Entry], calls: &Calls) -> Result<Places, AllocError>
         ensures { IfOk result (λ places. (file : ℕ) → places_in places.rows file ≡
             places_from (is_of (λ id. call_in calls.now.rows id) file) 0 entries.now) }
@@ -162,7 +162,7 @@ fn is_common(e: &Entry) -> bool
     )
 }
 
-/// Puts the place of the entry after the others, if it is of every file. An error is want of memory.
+/// Puts the place of the entry after the others, if it is of every file. An error means that memory ran out.
 fn note_common(places: &mut Vec<usize>, e: &Entry, place: usize) -> Result<(), AllocError>
     ensures { OnOk result (places.new.items ≡
         (if is_common e.now then places.old.items ++ place ∷ [] else places.old.items)) }
@@ -173,7 +173,7 @@ fn note_common(places: &mut Vec<usize>, e: &Entry, place: usize) -> Result<(), A
     Ok(())
 }
 
-/// The places of the entries of every file, counted from 0, in order. An error is want of memory.
+/// The places of the entries of every file, counted from 0, in order. An error means that memory ran out.
 pub fn common_places(alloc: Global, entries: &[Entry]) -> Result<Vec<usize>, AllocError>
     ensures { IfOk result (λ places. places.items ≡ places_from is_common 0 entries.now) }
 {
@@ -198,7 +198,7 @@ fn ticks_of(e: &Entry) -> u64
     }
 }
 
-/// How far the running clocks have advanced before each entry, in milliseconds. An error is want of memory.
+/// How far the running clocks have advanced before each entry, in milliseconds. An error means that memory ran out.
 pub fn ticks_before(alloc: Global, entries: &[Entry]) -> Result<Vec<u128>, AllocError>
     ensures ticks { IfOk result (λ ticks. ticks.items ≡ ticks_from 0 entries.now) }
     ensures few { OnOk result (sum_by ticks_of entries.now ≤ length entries.now * 2 ^ 64) }

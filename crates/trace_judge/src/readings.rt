@@ -9,7 +9,7 @@ use std::collections::BTreeMap;
 use time_line::Entry;
 use xt_base::NodeId;
 
-/// What a running node's clock read when that was told last, the sum of the ticks until then, and the end of its lease.
+/// What a running node's clock read when that was reported last, the sum of the ticks until then, and the end of its lease.
 #[derive(Drop)]
 pub struct Reading {
     pub clock: u64,
@@ -39,7 +39,7 @@ impl Readings {
         }
     }
 
-    /// One entry more. An error is want of memory.
+    /// One entry more. An error means that memory ran out.
     pub fn take(&mut self, e: &Entry) -> Result<(), AllocError>
         requires room { self.old.ticks + 2 ^ 64 < 2 ^ 128 }
         ensures file { self.new.file ≡ self.old.file }

@@ -26,7 +26,7 @@ impl Ids {
         }
     }
 
-    /// One id more. An error is want of memory.
+    /// One id more. An error means that memory ran out.
     #[tactic(auto, using(crate::proofs::Put::id_put))]
     pub fn put(&mut self, id: OpId) -> Result<(), AllocError>
         ensures { OnOk result ((other : OpId) →
@@ -60,7 +60,7 @@ impl<'a> Answers<'a> {
         }
     }
 
-    /// One answer more. An error is want of memory.
+    /// One answer more. An error means that memory ran out.
     #[tactic(auto, using(crate::proofs::Put::answer_put))]
     pub fn put(&mut self, answer: Answer<'a>) -> Result<(), AllocError>
         ensures { OnOk result ((told : Told) → has_answer self.new.set told ≡

@@ -20,7 +20,7 @@ pub enum Verdict {
     Broken { clause: u8, entry: u64 },
 }
 
-/// The drift where a trace tells no times, in milliseconds.
+/// The drift where a trace gives no times, in milliseconds.
 const DRIFT: u64 = 1_000;
 
 /// The drift of a trace, in milliseconds.
@@ -38,7 +38,7 @@ pub(crate) fn drift_of(entries: &[Entry]) -> u64
     DRIFT
 }
 
-/// Where the file is by an entry, if that tells it.
+/// Where the file is by an entry, if that reports it.
 fn location_told<'a>(file: u64, e: &'a Entry) -> Option<&'a Location>
     ensures { option_map (λ l. l.now) result ≡ location_told file e.now }
 {
@@ -48,14 +48,14 @@ fn location_told<'a>(file: u64, e: &'a Entry) -> Option<&'a Location>
     }
 }
 
-/// Whether the file's place is told, by the entry too.
+/// Whether the file's place is reported, by the entry too.
 fn is_placed(placed: bool, file: u64, e: &Entry) -> bool
     ensures { result ≡ (placed || is_told (location_told file e.now)) }
 {
     placed || location_told(file, e).is_some()
 }
 
-/// The verdict that the clauses so far give after so many entries, if the file's place is told.
+/// The verdict that the clauses so far give after so many entries, if the file's place is reported.
 #[tactic(auto, using(crate::proofs::Walk::least_same))]
 fn verdict_at(judging: &Judging, placed: bool, entry: u64) -> Option<Verdict>
     ensures { (k : Kept) → Follows k judging.now →
@@ -139,7 +139,7 @@ fn stripe_of(location: Option<&Location>) -> Option<u32>
 }
 
 /// The verdict on a file: where it is broken first, if it is a replicated one and broken anywhere. The pass goes through the file's own
-/// entries, and those by which nodes start, stop or set their clocks. An error is want of memory.
+/// entries, and those by which nodes start, stop or set their clocks. An error means that memory ran out.
 pub fn judge(alloc: Global, trace: &DealtTrace, file: u64) -> Result<Verdict, AllocError>
     ensures { IfOk result (λ v. v ≡ verdict_of (judged file trace.now)) }
 {

@@ -10,7 +10,7 @@ use crate::verdict::{Verdict, judge};
 use std::alloc::{AllocError, Global};
 use time_line::Entry;
 
-/// Puts the number of the file that the entry tells, if it tells one, after the others.
+/// Puts the number of the file that the entry reports, if it reports one, after the others.
 fn note_file(files: &mut Vec<u64>, e: &Entry) -> Result<(), AllocError>
     ensures { OnOk result ((more : List ℕ) →
         files.new.items ++ more ≡ files.old.items ++ with_file e.now more) }
@@ -25,7 +25,7 @@ fn note_file(files: &mut Vec<u64>, e: &Entry) -> Result<(), AllocError>
     Ok(())
 }
 
-/// The numbers of the files that a trace tells, in the order of their entries. An error is want of memory.
+/// The numbers of the files that a trace reports, in the order of their entries. An error means that memory ran out.
 pub fn files_of(alloc: Global, entries: &[Entry]) -> Result<Vec<u64>, AllocError>
     ensures { IfOk result (λ files. files.items ≡ files_of entries.now) }
 {
@@ -74,7 +74,7 @@ pub fn least(verdicts: &[Verdict]) -> Verdict
     found
 }
 
-/// The verdict on each of the files, in order. An error is want of memory.
+/// The verdict on each of the files, in order. An error means that memory ran out.
 fn judge_each(alloc: Global, trace: &DealtTrace, files: &[u64]) -> Result<Vec<Verdict>, AllocError>
     ensures { IfOk result (λ verdicts.
         verdicts.items ≡ map (λ file. verdict_of (judged file trace.now)) files.now) }
@@ -86,7 +86,8 @@ fn judge_each(alloc: Global, trace: &DealtTrace, files: &[u64]) -> Result<Vec<Ve
     Ok(verdicts)
 }
 
-/// The verdict on a trace: safe, or the entry by which it is broken first and the least clause there. An error is want of memory.
+/// The verdict on a trace: safe, or the entry by which it is broken first and the least clause there. An error means that
+/// memory ran out.
 pub fn audit(alloc: Global, entries: &[Entry]) -> Result<Verdict, AllocError>
     ensures pass { IfOk result (λ v. v ≡ verdict_of (audited entries.now)) }
     ensures verdict { TimesStandFirst entries.now → IfOk result (λ v. IsVerdictOn entries.now v) }

@@ -36,7 +36,7 @@ fn is_change_on(file: u64, call: Option<&Call>) -> bool
     }
 }
 
-/// Puts bytes at a place of an object. An error is want of memory.
+/// Puts bytes at a place of an object. An error means that memory ran out.
 fn write(
     content: &mut SparseBytes,
     stripe: u32,
@@ -61,7 +61,7 @@ fn is_none(bytes: &[u8]) -> bool
     bytes.is_empty()
 }
 
-/// Changes the content as the call does, where it is one on the file. An error is want of memory.
+/// Changes the content as the call does, where it is one on the file. An error means that memory ran out.
 fn change(content: &mut SparseBytes, file: u64, stripe: u32, call: &Call) -> Result<(), AllocError>
     ensures { OnOk result ((bytes : List ℕ) →
         Tells content.old.size content.old.written bytes →
@@ -206,8 +206,8 @@ impl Writes {
         }
     }
 
-    /// One claim more: whether the order bears it out, and whether it appends a write only once and after its call began. The content
-    /// changes with the write, where it is `exact` so far and the write is such a one. An error is want of memory.
+    /// One claim more: whether the order agrees with it, and whether it appends a write only once and after its call began. The
+    /// content changes with the write, where it is `exact` so far and the write is such a one. An error means that memory ran out.
     pub fn take(
         &mut self,
         file: u64,

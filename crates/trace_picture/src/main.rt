@@ -16,7 +16,7 @@ use xt_base::Words;
 use xt_messages::Status;
 
 /// The words of the command line, after the program's name. Where one of them isn't UTF-8 an empty word stands for them, which asks for
-/// nothing either. An error is want of memory.
+/// nothing either. An error means that memory ran out.
 fn words_of(rt: &HostRuntime) -> io::Result<Words> {
     let alloc = rt.alloc();
     let mut words = Words::new(alloc);

@@ -84,7 +84,7 @@ pub(crate) fn run<S: Source, K: Sink>(
     // What was taken and put, and why it ended.
     ensures run { IsRun words.now (S.left src.old) (S.left src.new) (K.held out.old)
         (K.held out.new) result }
-    // A fault ends the run and is told, where its object's count rose; with any other status no count did.
+    // A fault ends the run and is reported, where its object's count rose; with any other status no count did.
     ensures cause { HasCause (S.fault_count src.old) (S.fault_count src.new) (K.fault_count out.old)
         (K.fault_count out.new) result }
 {
@@ -94,7 +94,7 @@ pub(crate) fn run<S: Source, K: Sink>(
     }
 }
 
-/// Puts the last line of a status, if memory and the sink allow it: the status stands, whether or not it can be told.
+/// Puts the last line of a status, if memory and the sink allow it: the status stands, whether or not it can be reported.
 pub(crate) fn tell<K: Sink>(alloc: Global, out: &mut K, status: &Status) {
     if let Ok(text) = print_status(alloc, status) {
         let _told = put_all(out, text.as_slice());

@@ -39,7 +39,7 @@ pub enum Style {
     Gone,
     /// Round the place of a write that is committed.
     Committed,
-    /// Round the count that an answer tells.
+    /// Around the count that an answer reports.
     Answered,
     /// A call that ended.
     Call,

@@ -19,7 +19,7 @@ pub standing_more :
 unfolding standing
 standing_more node file entries i e h = fold_more (standing_after node file) None entries i e h
 
--- what is kept of it, and what is told of it
+-- what is kept of it, and what is given of it
 module _ (node : NodeId) (file : ℕ) (entries : List Entry) (i : ℕ) (e : Entry) where
   pub kept_more :
       (now : Option Running) → i < length entries → e ≡ get_or entries i e

@@ -5,7 +5,7 @@ use Rattle.time_line.specs.declared.entry.Entry.{Entry}
 use Rattle.time_line.specs.TimeLine.{RunningBoot, standing, holds_as}
 use Rattle.trace_spans.specs.declared.standings.Running.{Running}
 
--- the greatest clock that is told: one beyond it is told as this
+-- the greatest clock that is given: one beyond it is given as this
 abbrev pub greatest : ℕ
 greatest = 18446744073709551615
 

@@ -38,7 +38,7 @@ pub fn spans_of(alloc: Global, flags: &[bool]) -> Result<Vec<Span>, OutOfMemory>
     Ok(spans)
 }
 
-/// Where something is told.
+/// Where there is a value.
 pub fn are_told(alloc: Global, values: &[Option<u64>]) -> Result<Vec<bool>, OutOfMemory>
     ensures { IfOk result (λ flags. flags.items ≡ map is_some values.now) }
 {

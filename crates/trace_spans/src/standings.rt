@@ -27,7 +27,7 @@ fn set_to(clock: u64, before: Option<Running>) -> Option<Running>
     }
 }
 
-/// A node whose clock advanced. No clock is told beyond the greatest number.
+/// A node whose clock advanced. No clock is given beyond the greatest number.
 fn advanced(count: u64, before: Option<Running>) -> Option<Running>
     ensures { (s : Option RunningBoot) → before ≡ kept s → result ≡ kept (advances count s) }
 {

@@ -1,7 +1,7 @@
-//! The size of a file as reports tell it: each size stands under the truncate epoch in which it was learnt.
+//! The size of a file as reports give it: each size stands under the truncate epoch in which it was learnt.
 //!
 //! `merge` keeps the greater of two marks. Marks that are merged one by one come to the same mark in every order and
-//! however often each is repeated, so that what the metadata server knows is the join of what it was told.
+//! however often each is repeated, so that what the metadata server knows is the join of what was reported to it.
 #![tactic(auto)]
 
 ghost use Rattle.std.specs.Prelude.{◌≡◌, List};

@@ -57,7 +57,7 @@ create path = ask.Create path 420 kind.Replicated 2 4096
 abbrev pub refused : MetaAnswer
 refused = answer.Refused refusal.NameBad
 
--- a volume is made once; without OSDs no file is; another asker may not write there; the volume is told
+-- a volume is made once; without OSDs no file is; another asker may not write there; the volume's row is reported
 abbrev pub first_steps : List Asked
 first_steps =
     by_first (mkdir (codes "/v")) ∷ by_first (mkdir (codes "/v")) ∷ by_first (create (codes "/v/a")) ∷ by_other (mkdir (codes "/v/d")) ∷ by_first (ask.Stat (codes "/v")) ∷ []

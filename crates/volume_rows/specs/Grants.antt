@@ -20,7 +20,7 @@ use Rattle.volume_rows.specs.Paths.{Name, Path}
 use Rattle.volume_rows.specs.Rows.{Row, Volumes, entry_at}
 use Rattle.volume_rows.specs.Rights.{reading, writing, rule_of_read, rule_of_write, first_of, ancestors, there, file, allowed}
 
--- what a client wants of a file: 1 to read it, 2 to write it, 3 to truncate it
+-- what a client asks to do with a file: 1 to read it, 2 to write it, 3 to truncate it
 abbrev pub wants_reading : ℕ → Bool
 wants_reading want = want == 1
 

@@ -28,7 +28,7 @@ pub record Outcome : Type 0 where
 abbrev pub refused : Volumes → MetaRefusal → Outcome
 refused volumes why = record { volumes = volumes; answer = answer.Refused why }
 
--- told: nothing changes
+-- answered, and nothing changes
 abbrev pub tells : Volumes → MetaAnswer → Outcome
 tells volumes what = record { volumes = volumes; answer = what }
 
@@ -131,7 +131,7 @@ abbrev pub kind_of : Content → RowKind
 kind_of content.Directory = row_kind.Directory
 kind_of (content.File stored) = row_kind.File
 
--- what is told of an entry
+-- the answer about an entry
 abbrev pub row_told : Volumes → Option Entry → Outcome
 row_told volumes None = refused volumes refusal.NotFound
 row_told volumes (Some entry) =

@@ -72,7 +72,7 @@ names_in rows path = filter_map (λ r. name_in path r.path) rows
 abbrev pub page_of : List Row → Path → Name → List Name
 page_of rows path after = take 512 (filter (λ name. is_lt (slice_cmp nat_cmp after name)) (names_in rows path))
 
--- the mark that is told of an entry: a directory has none
+-- the mark that is reported of an entry: a directory has none
 abbrev pub mark_of : Content → SizeMark
 mark_of content.Directory = record { epoch = 0; size = 0 }
 mark_of (content.File stored) = stored.mark

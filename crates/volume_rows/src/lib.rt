@@ -56,7 +56,7 @@ pub struct Entry {
 #[derive(Clone, Copy)]
 pub enum Picked {
     On { location: Location },
-    /// So many OSDs are there, fewer than the file wants.
+    /// So many OSDs are there, fewer than the file asks for.
     TooFew { have: u8 },
 }
 

@@ -1,4 +1,4 @@
--- the sizes that are told and set of a file
+-- the sizes of a file that are reported and set
 use Rattle.std.proofs.Common.{◌≡◌, ◌∙◌, ℕ, List, [], ◌∷◌, refl, sym, ap, Bool, true, false, cond}
 use Rattle.std.specs.Prelude.{◌==◌, ◌&&◌, Option, Some, None}
 use Rattle.std.specs.Str.{bytes_eq}
@@ -46,7 +46,7 @@ held_if file path (Some stored) volume has = go (stored.number == file.number) h
   go true h = let is : volume_of path ≡ volume = cc in and_true (bytes_eq (volume_of path) file.volume) ∙ ap (λ (v : List ℕ). bytes_eq v file.volume) is
   go false h = absurd (cc)
 
--- what is told of a file with a number
+-- what is known of a file with a number
 told_sized : (number : ℕ) (path : Path) (kept : Kept) (sizes : Sizes) (what : Content) (volume : List ℕ) → kept number ≡ Some sizes → volume_if number path (stored_of what) ≡ Some volume → sizes_of (stored_of (content_sized kept what)) ≡ Some (sizes.epoch, sizes.mark)
 told_sized number path kept sizes content.Directory volume is has = absurd (cc)
 told_sized number path kept sizes (content.File stored) volume is has = go (stored.number == number) refl has where
@@ -54,7 +54,7 @@ told_sized number path kept sizes (content.File stored) volume is has = go (stor
   go true e h = ap (λ (o : Option Sizes). sizes_of (Some (stored_sized o stored))) (ap kept ((Decides-eqb stored.number number).0 e) ∙ is)
   go false e h = absurd (cc)
 
--- nothing is told where no file has the number
+-- nothing is known where no file has the number
 pub sizes_none : (file : FileId) (kept : Kept) (rows : List Row) → volumes_numbered file.number rows ≡ [] → sizes_in (all_sized kept rows) file ≡ None
 sizes_none file kept [] none = refl
 sizes_none file kept (r ∷ rs) none =

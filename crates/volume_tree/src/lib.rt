@@ -1,7 +1,8 @@
 //! What the metadata server does with its volumes.
 //!
 //! `Table` keeps them as a tree of names, which goes down the names of a path alone, and the sizes of each file by its number; contracts
-//! see the flat list of rows. The calls of `Tree` equal those on that list; a refusal, and want of memory, change nothing.
+//! see the flat list of rows. The calls of `Tree` equal those on that list; a refusal changes nothing, and neither does running out of
+//! memory.
 #![tactic(auto)]
 
 mod requests;

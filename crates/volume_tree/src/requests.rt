@@ -17,7 +17,7 @@ use volume_rows::{
 use xt_base::{COUNTS, FileId, Name, SizeMark};
 use xt_messages::{MetaAnswer, MetaRefusal, RowKind};
 
-/// The want of a grant that is to truncate.
+/// The `want` of a grant that is to truncate.
 const TO_TRUNCATE: u8 = 3;
 
 /// The names of the path that a text spells, at least so many.
@@ -58,7 +58,7 @@ fn kind(content: &Content) -> RowKind
     }
 }
 
-/// The mark that is told of an entry: a directory has none.
+/// The mark that is reported of an entry: a directory has none.
 fn mark(content: &Content) -> SizeMark
     ensures { result ≡ mark_of content.now }
 {

@@ -39,7 +39,7 @@ pub struct Sizes {
 }
 
 /// All volumes. Contracts see the flat list of their rows, and the number that the next file gets. The tree has each file with
-/// the sizes that it was made with; those that are told are kept beside it.
+/// the sizes that it was made with; those that were reported are kept beside it.
 pub struct Table {
     top: Node,
     sizes: BTreeMap<u64, Sizes>,

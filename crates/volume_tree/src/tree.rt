@@ -181,7 +181,7 @@ impl Tree {
         }
     }
 
-    /// The file at a path, if one is there. It takes the path apart, and wants memory for its names.
+    /// The file at a path, if one is there. It takes the path apart, and takes memory for its names.
     pub fn file_at(&self, path: &Name) -> Result<Option<FileId>, OutOfMemory>
         ensures { IfOk result (λ file. file ≡ file_at self.now (path_in path.now)) }
     {

@@ -1,4 +1,4 @@
--- the clocks of which a rule tells
+-- the clocks that a rule names
 use Rattle.std.specs.Prelude.{ℕ, Bool, not, ◌&&◌, ◌==◌, nat_le, ◌+◌, Option}
 use Rattle.std.specs.Option.{option_map}
 use Rattle.xt_base.specs.declared.ids.NodeId.{NodeId}

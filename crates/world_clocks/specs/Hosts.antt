@@ -18,6 +18,6 @@ MayTick count host = IfSome host.up (λ running. running.clock + count < COUNTS)
 abbrev pub clock_set : ℕ → HostView → HostView
 clock_set clock host = record host { up = option_map (reads_clock clock) host.up }
 
--- the clock of the one that stands there is set, and no other
+-- the clock of the one that is there is set, and no other
 abbrev pub SetsClock : List HostView → ℕ → ℕ → List HostView → Type 0
 SetsClock old place clock new = (host : HostView) × (host ≡ slice_index_or old place host) × (new ≡ slice_set old place (clock_set clock host))

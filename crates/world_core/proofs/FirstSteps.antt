@@ -37,7 +37,7 @@ use Rattle.std.proofs.Common.{IfOk}
 use Rattle.world_step.proofs.Endings.{stepped_ok}
 use Rattle.world_nodes.proofs.Changes.{same_there}
 
--- what is so of a state is so of its view
+-- what holds of a state holds of its view
 pub from_view : (was self new : Working) (f : Doing → Result Doing Cause) → was ≡ self → (f was.doing ≡ Ok new.doing) × WentOn was new → (f self.doing ≡ Ok new.doing) × WentOn self new
 from_view was self new f is so = subst (λ (x : Working). (f x.doing ≡ Ok new.doing) × WentOn x new) is so
 
@@ -51,7 +51,7 @@ stayed was self f is so = subst (λ (x : Working). (f x.doing ≡ Ok x.doing) ×
 pub same_untold : (s : Working) → IsUntold s s
 same_untold s = record { entries = refl; lines = refl; begun = refl; ended = refl }
 
--- a limit is told
+-- a limit is reported
 pub limit_said : (was self : Working) (f : Doing → Result Doing Cause) (what : Limited) (e : WorldErr) → was ≡ self → e ≡ error.Limit what (limit_of what)
     → cause_of (f was.doing) ≡ Some (came_to what) → Tells (cause_of (f self.doing)) e
 limit_said was self f what e is said so =

@@ -41,7 +41,7 @@ applied_run room w whole l going is legal ended same =
     (ap (λ (ls : List Line). run_of room (ls ++ l ∷ [])) same ∙ run_last room w.lines l ∙ ap (λ (x : World). after room x l) (sym is) ∙ after_is room w l going legal
     ∙ ap (left_by l) ended)
 
--- ---- the line may stand there
+-- ---- the line is allowed there
 
 last_later : (ls : List Line) (l : Line) → AllByRecursion FitsLater (ls ++ l ∷ []) → FitsLater l
 last_later [] l are = are.0
@@ -74,7 +74,7 @@ may_stand room w (line.Deliver number) is are = (last_fits w.lines (line.Deliver
 may_stand room w (line.Drop number) is are = (last_fits w.lines (line.Drop number) are).0
 may_stand room w (line.Settle count) is are = (last_fits w.lines (line.Settle count) are).0
 
--- ---- what is so of the steps of a line of a run
+-- ---- what holds of the steps of a line of a run
 
 -- each is made in a world that fits
 pub all_fit : (room : Room) (w : World) (l : Line) → w.ended ≡ false → w ≡ run_of room w.lines → refusal w l ≡ None → AreLines (w.lines ++ l ∷ []) → DoStepsFit room → AllFit room (opening w l)

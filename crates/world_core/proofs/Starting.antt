@@ -101,11 +101,11 @@ module _ (told : Room) (d : Doing) (id : NodeId) (clock place : ℕ) (is : IsPla
       (starts_alike d.world.times (after_load is.0) is.0 boot clock is.0.role refl (record { rows = refl; requests = refl }))
       ∙ ap (λ (ns : List Node). record { times = d.world.times; nodes = ns }) (twice d.world.nodes (after_load is.0) (started_from boot) refl)
 
-  -- the node stands there, as it started
+  -- the node is there, as it started
   pub started_at : (boot : Boot) (between : NodesView) → between ≡ started_in boot → IsAt between.nodes place (started_from boot)
   started_at boot between was = subst (λ (v : NodesView). IsAt v.nodes place (started_from boot)) (sym was) (at_again d.world.nodes place is.0 (started_from boot) is.1 refl)
 
-  -- the files that it has made and that aren't told
+  -- the files that it has made and that the trace doesn't report
   pub left_at : (boot : Boot) (made left : List PlacedFile) → left ≡ filter (is_untold made) (made_at (started_from boot).up) → left ≡ files_left made is.0
   left_at boot made left so = so ∙ ap (filter (is_untold made)) (made_starting d.world.times is.0 boot clock is.0.role)
 

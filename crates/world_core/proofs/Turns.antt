@@ -41,7 +41,7 @@ pub step_is : (room : Room) (d : Doing) → steps 1 room (goes_on d) ≡ next_st
 unfolding steps
 step_is room d = refl
 
--- a line that is done or has ended is so after more steps
+-- a line that is done or has ended stays so after more steps
 pub done_longer : (k j : ℕ) (room : Room) (next : Next) (w : World) → steps k room next ≡ finished w → k ≤ j → steps j room next ≡ finished w
 done_longer k j room next w is le =
     let split : j ≡ k + (j - k) = omega arith in

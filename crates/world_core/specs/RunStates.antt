@@ -22,7 +22,7 @@ resting w = record { doing = record { world = w; own = []; left = 0 }; begun = [
 abbrev pub IsRunSoFar : Room → World → Type 0
 IsRunSoFar room w = w.ended ≡ false → (w ≡ run_of room w.lines) × AreLines w.lines
 
--- the line ended early in this world, and an error tells why
+-- the line ended early in this world, and an error reports why
 abbrev pub TellsEnd : Next → World → WorldErr → Type 0
 TellsEnd next w (error.Illegal rule) = ⊥
 TellsEnd next w (error.Limit what limit) = (next ≡ ends (came_to what) w) × (limit ≡ limit_of what)
@@ -59,7 +59,7 @@ HasTurned room old count next new (Ok true) = (steps count room next ≡ finishe
 HasTurned room old count next new (Ok false) = (steps count room next ≡ goes_on new.doing) × WentOn old new
 HasTurned room old count next new (Err e) = HasEnded room old count next new e
 
--- each of the steps that may come is made in a world that fits
+-- each of the steps that can follow is made in a world that fits
 abbrev pub AllFit : Room → Next → Type 0
 AllFit room next = (k : ℕ) → FitsAt (steps k room next)
 

@@ -37,7 +37,7 @@ requests_loaded found loaded = subst (AllByRecursion FitsRecord) (sym loaded.sam
 pub said_loaded : (found : List Record) (folded : Folded) → AreLoaded found → folded ≡ fold_of found → IsSaid folded
 said_loaded found folded loaded is = (loaded.kept, loaded.may, is ∙ loaded.same.rows)
 
--- what is told by records one after the other is told by the requests among them, where no other record tells anything
+-- what records give one after the other, the requests among them give, where no other record changes anything
 module _ (S : Type 0) (after : S → Record → S) (rests : (s : S) (rec : Record) → is_logged rec ≡ false → after s rec ≡ s) where
   told_by_requests : (s : S) (records : List Record) → fold after s records ≡ fold after s (logged_of records)
   unfolding logged_of

@@ -1,4 +1,4 @@
--- a file that a client may use, as a world with its table of files tells it, and as a node is told it
+-- a file that a client may use, as a world with its table of files gives it, and as a node gets it
 use Rattle.std.proofs.Common.{◌≡◌, ℕ, true, is_some, inl, inr, arith, Option, Some, None, List, [], ◌∷◌, refl, ap, subst}
 use Rattle.std.specs.Option.{IfSome, option_or}
 use Rattle.std.proofs.lemmas.Bool.Decides.{nat_tests}

@@ -2,8 +2,9 @@
 //!
 //! A `NodeCore` is the code of a node of any role: its steps equal those of `world_spec`. Over any core, `Host::handle` equals
 //! `core_step` on an event, `Host::call` the step of a client's call, and `Host::again` that of its last call once more. They take the
-//! node's bodies at most, and nothing that appends or sends: what comes of a step is in their hands who hold the world. `Host::keep`
-//! gives the held bodies that an OSD needs, and `Host::forget` lets the others go. After want of memory a node isn't to be used again.
+//! node's bodies at most, and nothing that appends or sends: who holds the world does what comes of a step. `Host::keep`
+//! gives the held bodies that an OSD needs, and `Host::forget` lets the others go. Once memory has run out a node isn't to be used
+//! again.
 #![tactic(auto)]
 
 mod bodies;

@@ -68,7 +68,7 @@ pub trait NodeCore: Drop {
         ensures own { IfOk result (λ core. (id : NodeId) (times : TimeSettings) →
             is_of id times core) };
 
-    /// The step on an event, at a reading of the clock. A body that can't be read is told as want of memory.
+    /// The step on an event, at a reading of the clock. A body that can't be read is reported as out of memory.
     fn handle<B: Bodies>(
         &mut self,
         bodies: &mut B,

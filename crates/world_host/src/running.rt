@@ -10,7 +10,7 @@ pub struct Running<C: NodeCore> {
     pub clock: u64,
     /// Where its next append stops.
     pub crash: Option<Stop>,
-    /// Behind how many messages its next step that sends stops.
+    /// After how many messages its next step that sends stops.
     pub cut: Option<u128>,
     pub core: C,
 }

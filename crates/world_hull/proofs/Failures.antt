@@ -1,4 +1,4 @@
--- what is so of a call that fails
+-- what holds of a call that fails
 use Rattle.std.proofs.Common.{Result, Ok, Err, OnErr}
 
 pub on_err : {T E : Type 0} (P : Type 0) (result : Result T E) → P → OnErr result P

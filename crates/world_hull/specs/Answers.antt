@@ -13,7 +13,7 @@ IsFullOrMemory (error.Limit what limit) = ⊥
 IsFullOrMemory (error.Full need limit) = Unit {0}
 IsFullOrMemory error.OutOfMemory = Unit {0}
 
--- A record is told to have no room exactly where it has none, with what it needs. Memory may run out before.
+-- `Full` is the error exactly where a record has no room, and says how much it needs. Memory may run out before.
 abbrev pub IsFullExactly : {T : Type 0} → Option Overflow → Result T WorldErr → Type 0
 IsFullExactly overflow (Ok value) = overflow ≡ None
 IsFullExactly overflow (Err (error.Illegal rule)) = overflow ≡ None

@@ -98,7 +98,7 @@ pub trait Hull: Drop {
     fn may_compact(&self, node: NodeId) -> bool
         ensures { result ≡ false → IsNeverNow room (past self.now node.0) };
 
-    /// Rewrites the node's records with these bodies, where that is to be done now, and tells whether it was. Only memory
+    /// Rewrites the node's records with these bodies, where that is to be done now, and reports whether it was. Only memory
     /// may run out. After an error the hull isn't to be used for the node's records again; those of every other node are
     /// as before.
     fn compact(&mut self, alloc: Global, node: NodeId, keep: &Keep) -> Result<bool, WorldErr>

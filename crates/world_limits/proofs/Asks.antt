@@ -81,7 +81,7 @@ pushed asks ask are is = record { wait = all_append AskIs asks.waiting (ask ∷ 
 pub waits_are : (asks : Asks) (ask : WaitingAsk) → AsksAre asks → AskIs ask → AsksAre (waits asks ask)
 waits_are asks ask are is = either AsksAre (nat_lt (length asks.waiting) WAITING) (record asks { waiting = asks.waiting ++ ask ∷ [] }) asks (pushed asks ask are is) are
 
--- what the serving of asks owes
+-- what must hold of the serving of asks
 pub record ServedIs (file : FileId) (own : FileHead) (s : Served) : Type 0 where
   pub primary : PrimaryIs s.primary
   pub asks : AsksAre s.asks

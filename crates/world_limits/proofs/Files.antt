@@ -177,7 +177,7 @@ module _ (site : Site) (here : SiteIs site) where
       (all_append FitsMessage _ _ (each_told site.node s.kept.file (filter (is_due site.now) s.asks.waiting) answer here.who is.row.which (all_filter AskIs (is_due site.now) s.asks.waiting is.waits.wait) fits)
       (untold_told site.node s.kept.file (newly_due site.now s.asks.issued) answer here.who is.row.which (newly_is s.asks.issued is.waits.written) fits))
 
-  -- all asks are told that there is no lease
+  -- all asks get the answer that there is no lease
   no_lease_is : (s : FileState) → FileIs s → StepIs s.kept (steps_to (record s { asks = no_asks }) (sends (tells_untold site.node s.kept.file s.asks.issued (reply.NoLease s.last_end) ++ tells_each site.node s.kept.file s.asks.waiting (reply.NoLease s.last_end))))
   no_lease_is s is =
       steps_is (record s { asks = no_asks }) _ (with_asks s no_asks is none_are) tt

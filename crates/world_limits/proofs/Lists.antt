@@ -1,4 +1,4 @@
--- lists of which each element is so
+-- lists each of whose elements has a property
 use Rattle.std.proofs.Common.{inl, inr, List, [], ◌∷◌, ◌++◌, map, refl, sym, subst, Some, Bool}
 use Rattle.std.specs.Prelude.{flat_map, find}
 use Rattle.std.specs.Option.{IfSome}

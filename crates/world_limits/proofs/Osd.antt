@@ -32,7 +32,7 @@ use Rattle.world_limits.proofs.Asks.{none_are}
 use Rattle.world_limits.specs.States.{KeptIs}
 use Rattle.world_limits.proofs.Kept.{NextOf, new_row_is, bodies_are}
 
--- what a step of the files of an OSD owes that keeps these records
+-- what must hold of a step of the files of an OSD that keeps these records
 pub record FilesAre (records : List Record) (step : FilesStep) : Type 0 where
   pub each : AllByRecursion FileIs step.files
   pub next : NextOf records step.turned.rec

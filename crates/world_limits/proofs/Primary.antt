@@ -152,7 +152,7 @@ fed_is body target known bodies is = at (find (λ (v : ObjectVersion). not (has_
     at None lacks = is
     at (Some v) lacks = (lacks.which, lacks.write, bodies v.object v.version)
 
--- ---- what a row of a primary owes
+-- ---- what must hold of a row of a primary
 
 -- a primary keeps a promise that isn't below its own, or a body
 abbrev pub LedRec : FileId → FileHead → Record → Type 0

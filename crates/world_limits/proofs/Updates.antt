@@ -1,4 +1,4 @@
--- what a read shows, what a write is told, and the update that it makes: all of it is within the limits
+-- what a read shows, what a write is answered, and the update that it makes: all of it is within the limits
 use Rattle.std.proofs.Common.{◌≡◌, ◌==◌, ◌&&◌, ◌<◌, ◌≤◌, ◌+◌, ◌*◌, ◌^◌, ◌-◌, max, inl, inr, ℕ, nat_lt, List, [], ◌∷◌, length, take, drop, refl, sym, ◌∙◌, Option, Some, None, Bool, true, false, if◌then◌else◌, arith}
 use Rattle.std.specs.Prelude.{cond, ◌/◌, ◌%◌}
 use Rattle.std.specs.Option.{IfSome}

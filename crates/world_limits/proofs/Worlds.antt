@@ -113,7 +113,7 @@ kept_then : (records : List Record) (rec : Option Record) → KeptIs records →
 kept_then records None is next = is
 kept_then records (Some rec) is next = follows_is records rec is next
 
--- what a step of a node owes
+-- what must hold of a step of a node
 pub record TurnIs (node : Node) (next : Core) (turned : Turned) : Type 0 where
   pub state : CoreIs next
   pub record_next : FitsNext node.kept turned.rec
@@ -291,7 +291,7 @@ known_placed w own is number f there = elim (has_in f w.files w.made (file_in-ha
 none_some : {A P : Type 0} (o : Option A) (x : A) → o ≡ None → o ≡ Some x → P
 none_some o x a b = absurd (cc (a, b))
 
--- the files that a node's records made, of which some aren't told yet
+-- the files that a node's records made, of which the trace doesn't report some yet
 made_placed : (es : List (ℕ × MadeFile)) → servers.AreMade es → AllByRecursion FitsPlaced (map file_made es)
 made_placed [] are = tt
 made_placed (e ∷ es) are = (record { which = are.0.own; place = are.0.place }, made_placed es are.1)

@@ -96,7 +96,7 @@ pub record FitsWorld (w : World) (own : List Msg) : Type 0 where
   pub nodes : (node : Node) → node_in w.nodes node.id.0 ≡ Some node → FitsNode node
   pub sent : AllByRecursion (λ (s : Sent). FitsMessage s.message) w.sent
   pub queued : AllByRecursion FitsMessage own
-  -- every step that may come next gives what can be kept and sent, and an OSD may forget then
+  -- every step that can follow gives what can be kept and sent, and an OSD may forget then
   pub handled : (node : Node) (running : Running) (happens : Event) → node_in w.nodes node.id.0 ≡ Some node → node.up ≡ Some running
       → Comes w own node.id happens → FitsStep node.kept (core_step w.times node running.core running.clock happens)
   -- and so does a client's call, and its last call made again

@@ -168,7 +168,7 @@ pub record SiteIs (site : Site) : Type 0 where
   pub clock : site.now < 2 ^ 62
   pub bodies : (file : FileId) → AreBodies (site.body file)
 
--- what a step of a file owes
+-- what must hold of a step of a file
 pub record StepIs (row : FileRow) (step : FileStep) : Type 0 where
   pub state : FileIs step.state
   pub next : NextIs row step.turned.rec

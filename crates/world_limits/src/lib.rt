@@ -1,7 +1,7 @@
 //! What every run of a world keeps to: its records are within their limits and each in its place, its messages are within theirs,
 //! and so are clocks and plans; and so is all that a step more gives.
 //!
-//! So a hull may be asked to keep and to carry what a step gives, and it can refuse only for want of room. Definitions and
+//! So a hull may be asked to keep and to carry what a step gives, and it can refuse only where there is no room. Definitions and
 //! theorems alone; nothing runs here.
 #![tactic(auto)]
 

@@ -45,7 +45,7 @@ pub record AreHosts (stored : ℕ → Stored) (times : TimeSettings) (hosts : Li
 
 -- ---- one node
 
--- the node stands there, the first of its id
+-- the node is there, the first of its id
 pub record IsAt (nodes : List Node) (place : ℕ) (node : Node) : Type 0 where
   pub inside : place < length nodes
   pub here : slice_get nodes place ≡ Some node

@@ -32,7 +32,7 @@ use Rattle.world_runs.proofs.Entries.{HasAnswer}
 abbrev pub IsAnswered : List Entry → OpId → ℕ → List ℕ → Type 0
 IsAnswered es id count bytes = (file : ℕ) × HasAnswer file es id count bytes
 
--- the call has begun on a file that is told to be a striped one
+-- the call has begun on a file that the trace reports as a striped one
 pub record IsOnStriped (es : List Entry) (id : OpId) : Type 0 where
   pub file : ℕ
   pub has_begun : HasBegunOn file es id
@@ -45,16 +45,16 @@ abbrev pub ReplyIs : List Entry → NodeId → ℕ → Reply → Type 0
 ReplyIs es to number (reply.Ok count size bytes) = IsAnswered es (id_of to number) count bytes ⊎ IsOnStriped es (id_of to number)
 ReplyIs es to number _ = Unit {0}
 
--- a call has begun on the file of a capability with its operation, which is within its limits, and the file is told to be there
+-- a call has begun on the file of a capability with its operation, which is within its limits, and the trace reports that file
 abbrev pub AskIs : List Entry → OpId → Capability → Op → Type 0
 AskIs es id capability asked =
     (operation_begun capability.file.number es id ≡ Some asked) × FitsOp asked × (location_in capability.file.number es ≡ Some capability.location)
 
--- a capability that a client holds of the file of this number is of that file, and the file is told to be there
+-- a capability that a client holds of the file of this number is of that file, and the trace reports that file
 abbrev pub HeldIs : List Entry → ℕ → Capability → Type 0
 HeldIs es number capability = (capability.file.number ≡ number) × (location_in number es ≡ Some capability.location)
 
--- a message that was sent: an ask is of such a call, an Ok was answered so, and what is granted is of a file that is told to be there
+-- a message that was sent: an ask is of such a call, an Ok was answered so, and what is granted is of a file that the trace reports
 abbrev pub ContentIs : List Entry → NodeId → NodeId → Payload → Type 0
 ContentIs es from to (payload.Ask number capability asked) = AskIs es (id_of from number) capability asked
 ContentIs es from to (payload.Reply number file answer) = ReplyIs es to number answer
@@ -78,7 +78,7 @@ pub data Ending (es : List Entry) (node : NodeId) (marks : List Mark) : Type 0 w
   silent : marks ≡ [] → Ending es node marks
   ended : (number : ℕ) (how : Outcome) → marks ≡ mark.Done number how ∷ [] → OutcomeIs es (id_of node number) how → Ending es node marks
 
--- an event that comes to a client: what it is told was answered
+-- an event that comes to a client: what a message says was answered or granted
 abbrev pub EventIs : List Entry → NodeId → Event → Type 0
 EventIs es node (event.Deliver msg) = ContentIs es msg.from node msg.payload
 EventIs es node event.Wake = Unit {0}
@@ -121,7 +121,7 @@ module _ (es : List Entry) (node : NodeId) where
   ending_is happens _ came tells_none = silent refl
   ending_is happens _ came (tells_end number asked how is so) = ended number how refl (outcome_is happens number asked how came is so)
 
-  -- what is granted is of a file that is told to be there
+  -- what is granted is of a file that the trace reports
   content_grants : (from : NodeId) (content : Payload) → ContentIs es from node content → PayloadGrants (HeldIs es) content
   content_grants from (payload.MetaReply number told) is = is
   content_grants from _ is = tt

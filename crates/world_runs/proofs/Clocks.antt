@@ -95,7 +95,7 @@ fresh_at g awake (r ∷ rs) file is = at (is_file r.file file) (fresh_at g awake
 boot_pushed : (records : List Record) (boot : Boot) → (fold_of (records ++ kept.Boot boot ∷ [])).boot.0 ≡ boot.0
 boot_pushed records boot = ap (λ (f : Folded). f.boot.0) (fold_of-push records (kept.Boot boot))
 
--- the files that a start tells are as marks of them
+-- the files that a start reports are as marks of them
 abbrev file_mark : PlacedFile → Mark
 file_mark f = mark.File f.file f.location
 

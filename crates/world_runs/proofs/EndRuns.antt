@@ -75,7 +75,7 @@ event_is w was node (event.Call call) fit reaches = tt
 core_of : (w : World) (was : List Msg) (node : Node) (r : Running) → node_in w.nodes node.id.0 ≡ Some node → node.up ≡ Some r → Ends w was → CoreIs w.entries node.id r.core
 core_of w was node r found is_up fit = subst (UpIs w.entries node.id) is_up (fit.nodes_are node.id.0 node found)
 
--- what a running metadata server knows is what its records say, and all that it made is told
+-- what a running metadata server knows is what its records say, and the trace reports all that it made
 mrc_knows : (w : World) (was : List Msg) (node : Node) (r : Running) (m : MrcState) → node_in w.nodes node.id.0 ≡ Some node → node.up ≡ Some r → r.core ≡ mrc m → IsFit w was
     → (m.catalogue ≡ catalogue_of world_key node.kept) × (w.made ≡ files_in m.catalogue)
 mrc_knows w was node r m found is_up is_mrc fit =

@@ -131,20 +131,20 @@ module _ (Q : OpId → Type 0) where
     pub asks : AsksAre s.asks
     pub tenure : TenureIs Q s.primary.tenure
 
-  -- what the serving of asks owes
+  -- what must hold of the serving of asks
   pub record ServedIs (file : ℕ) (s : Served) : Type 0 where
     pub asks : AsksAre s.asks
     pub tenure : TenureIs Q s.primary.tenure
     pub said : AreSaid Q file s.turned.marks s.turned.outs
     pub marks : AreMarked Q file s.turned.marks
 
-  -- what a step of a file owes
+  -- what must hold of a step of a file
   pub record StepIs (file : ℕ) (step : FileStep) : Type 0 where
     pub state : FileIs step.state
     pub said : AreSaid Q file step.turned.marks step.turned.outs
     pub marks : AreMarked Q file step.turned.marks
 
-  -- what the step of a file on a message owes: an Ok is marked, but for that of an ask on a striped file
+  -- what must hold of the step of a file on a message: an Ok is marked, but for that of an ask on a striped file
   pub record MessageIs (file : ℕ) (from : NodeId) (content : Payload) (step : FileStep) : Type 0 where
     pub state : FileIs step.state
     pub said : (m : Msg) → Has m step.turned.outs → Said Q file step.turned.marks m.to m.payload ⊎ IsStripedReply from content m
@@ -508,7 +508,7 @@ module _ (Q : OpId → Type 0) where
           marks = both_marked Q s.kept.file.number (expired site s).turned.marks (message_comes site (expired site s).state from content).turned.marks first.marks (subst (λ n. AreMarked Q n (message_comes site (expired site s).state from content).turned.marks) same rest.marks);
         }
 
-    -- an ask on a striped file leaves the asks and the primary, and its client alone is told
+    -- an ask on a striped file leaves the asks and the primary, and its client alone gets an answer
     striped_is : (s : FileState) (from : NodeId) (number : ℕ) (capability : Capability) (asked : Op) → capability.location.kind ≡ kind.Striped → FileIs s
         → MessageIs s.kept.file.number from (payload.Ask number capability asked) (step_of_file site s from (payload.Ask number capability asked))
     unfolding step_of_file

@@ -213,11 +213,11 @@ halt_fits w own node old r how found its rows boot front fit =
 
 -- ---- steps
 
--- all files that are known once a step has told the files that it made
+-- all files that are known once a step has reported the files that it made
 abbrev pub known_after : World → Turned → List PlacedFile
 known_after w turned = w.files ++ (w.made ++ files_marked turned.marks)
 
--- what a step of a node owes
+-- what must hold of a step of a node
 pub record IsNext (w : World) (was : List Msg) (node : Node) (r : Running) (next : Core) (turned : Turned) : Type 0 where
   pub shows : (file : FileId) (members : List NodeId) → AreMembers (known w) file members
       → (step : RowStep) × IsStep (file_setting w.times file members) w node r next turned step × IsReached (file_setting w.times file members) (row_stepped (lease_view (file_setting w.times file members) w was) node.id step)
@@ -273,7 +273,7 @@ sent_then w own node outs m h =
       ]
     ]
 
--- a running metadata server's records have made what is told
+-- a running metadata server's records have made what the trace reports
 pub running_made : (made records_made : List PlacedFile) (up : Option Running) (r : Running) → up ≡ Some r → MadeUp made records_made up → made ≡ records_made
 running_made made records_made up r is_up is = subst (MadeUp made records_made) is_up is
 

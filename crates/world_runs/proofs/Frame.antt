@@ -110,7 +110,7 @@ however P d node running turned all cut lost stands = in_append running.crash tu
 abbrev pub next_node : Node → Running → Core → Turned → Node
 next_node node r next turned = record node { kept = one_more node.kept turned.rec; past = one_put node.past turned.rec; up = Some (record r { core = next }) }
 
--- what a step of this node owes: its new state shows the step's, its messages about the file are the step's, the other nodes
+-- what must hold of a step of this node: its new state shows the step's, its messages about the file are the step's, the other nodes
 -- stand as they did, and its record is of no start
 pub record IsStep (g : LeaseSetting) (w : World) (node : Node) (r : Running) (next : Core) (turned : Turned) (step : RowStep) : Type 0 where
   pub here : node_seen g node.id.0 (told g.file.number node.id.0 (w.entries ++ map (entry_of node.id) turned.marks)) (Some (next_node node r next turned))

@@ -275,7 +275,7 @@ content-grown es more from to (payload.Ask number capability asked) is = ask-gro
 content-grown es more from to (payload.Reply number file answer) is = reply-grown es more to number answer is
 content-grown es more from to _ is = tt
 
--- ---- what an OSD told
+-- ---- what an OSD answered
 
 has_split : {X : Type 0} (xs : List X) (x : X) → Has x xs → (front : List X) × (rest : List X) × (xs ≡ front ++ x ∷ rest)
 has_split [] x h = absurd h
@@ -337,7 +337,7 @@ told_is es node marks m (inr striped) =
 
 -- ---- worlds
 
--- A client's calls have begun, what it holds is of files that are told, and no call has begun from its next number on.
+-- A client's calls have begun, what it holds is of files that the trace reports, and no call has begun from its next number on.
 pub record CallerIs (es : List Entry) (node : NodeId) (c : WholeClient) : Type 0 where
   pub calls : ClientIs (RequestIs es node) c
   pub held : AllHeld (HeldIs es) c.held
@@ -353,8 +353,8 @@ abbrev pub UpIs : List Entry → NodeId → Option Running → Type 0
 UpIs es node None = Unit {0}
 UpIs es node (Some r) = CoreIs es node r.core
 
--- What holds at every moment: asks and the calls of clients have begun, who isn't declared has begun nothing, what was told or ended
--- well was answered, and the trace tells where each known file is.
+-- What holds at every moment: asks and the calls of clients have begun, who isn't declared has begun nothing, what was reported or
+-- ended well was answered, and the trace reports where each known file is.
 pub record EndsFit (files : List PlacedFile) (nodes : List Node) (es : List Entry) (sent : List Msg) : Type 0 where
   pub nodes_are : (n : ℕ) (node : Node) → node_in nodes n ≡ Some node → UpIs es node.id node.up
   pub strangers : (n : ℕ) → node_in nodes n ≡ None → FreshFrom es (node_id n) 0

@@ -297,7 +297,7 @@ made_above key records f h = rises_low 1000000 (files_in (catalogue_of key recor
 front_above : (made whole : List PlacedFile) → IsFront made whole → AreMade whole → AreMade made
 front_above made whole front above f h = above f (subst (Has f) (sym front.1) (has_left f made front.0 h))
 
--- and so the files that were told
+-- and so the files that were reported
 pub told_above : (made : List PlacedFile) (o : Option Node) → IsMadeBy made o → AreMade made
 told_above made None is = λ f h. absurd (subst (Has f) is h)
 told_above made (Some node) is = by_role node.role is
@@ -361,7 +361,7 @@ left_append told (x ∷ xs) ys = go (is_untold told x) (left_append told xs ys)
     go true later = ap (λ (zs : List PlacedFile). x ∷ zs) later
     go false later = later
 
--- of the files that records made, those are left that come after the told ones
+-- of the files that records made, those are left that come after the reported ones
 left_is : (key : List ℕ) (records : List Record) (told rest : List PlacedFile) → files_in (catalogue_of key records) ≡ told ++ rest
     → filter (is_untold told) (files_in (catalogue_of key records)) ≡ rest
 left_is key records told rest is =
@@ -369,7 +369,7 @@ left_is key records told rest is =
     ap (filter (is_untold told)) is ∙ left_append told told rest ∙ ap (λ (fs : List PlacedFile). fs ++ filter (is_untold told) rest) (all_told told told (member_found told))
     ∙ all_left told rest (λ f hf. ap (λ (o : Option PlacedFile). is_some o) (none_found told f.file.number (λ x hx. (let apart = rises_apart 1000000 told rest x f rises hx hf in omega (arith, apart)))))
 
--- once a metadata server has started, what its records made is told
+-- once a metadata server has started, what its records made is reported
 pub start_made : (made : List PlacedFile) (node : Node) → node.role ≡ role.Mrc → IsFront made (files_in (catalogue_of world_key node.kept))
     → made ++ files_left made node ≡ files_in (catalogue_of world_key node.kept)
 start_made made node is_mrc front =
@@ -377,7 +377,7 @@ start_made made node is_mrc front =
     ap (λ (its : Role). made ++ filter (is_untold made) (files_kept node its)) is_mrc
     ∙ ap (λ (fs : List PlacedFile). made ++ fs) (left_is world_key node.kept made front.0 front.1) ∙ sym front.1
 
--- no other start tells of files
+-- no other start reports files
 pub start_makes_none : (made : List PlacedFile) (node : Node) (its : Role) → node.role ≡ its → (its ≡ role.Mrc → ⊥) → files_left made node ≡ []
 start_makes_none made node its is other = ap (λ (its : Role). filter (is_untold made) (files_kept node its)) is ∙ by_role its other
   where

@@ -1,4 +1,4 @@
--- what the marks of a step tell
+-- what the marks of a step report
 use Rattle.std.proofs.Common.{◌≡◌, ◌≢◌, ℕ, ◌+◌, ◌<◌, inl, inr, List, [], ◌∷◌, ◌++◌, map, refl, arith, ap, sym, ◌∙◌, subst, Option, Some, None, Bool, true, false}
 use Rattle.std.specs.Prelude.{◌⊎◌, nat_lt, cond, IsSomeAnd}
 use Rattle.std.proofs.lemmas.List.{append-nil}
@@ -26,7 +26,7 @@ pub data MarksFit (node : NodeId) (es : List Entry) (marks : List Mark) : Type 0
   wins : (number end : ℕ) → marks ≡ mark.Held number end ∷ [] → MarksFit node es marks
   acts : (number : ℕ) → AreActs number marks → holds es node number ≡ true → MarksFit node es marks
 
--- acts tell of no end
+-- acts report no end
 acts_no_ends : (number : ℕ) (marks : List Mark) → AreActs number marks → held_ends marks ≡ []
 acts_no_ends number [] are = refl
 acts_no_ends number (mark.Active k count write ∷ ms) are = acts_no_ends number ms are.1
@@ -61,7 +61,7 @@ won_told number n node es marks file end is other =
     ap (λ (ms : List Mark). told number n (es ++ map (entry_of node) ms)) is
     ∙ ap end_in (standing-push (node_id n) number es (entry.Held node file end) ∙ other_held (node_id n) node number file end _ other)
 
--- the end that a step of a file tells of, at the node itself
+-- the end that a step of a file reports, at the node itself
 pub told_as : (number : ℕ) (node : NodeId) (es : List Entry) (st : RunningBoot) (file : FileId) (l : LeaseState) (marks : List Mark) (e : Option ℕ) → file.number ≡ number
     → standing node number es ≡ Some st → MarksAre file l marks → held_ends marks ≡ listed e
     → told number node.0 (es ++ map (entry_of node) marks) ≡ told_now e (told number node.0 es)
@@ -76,7 +76,7 @@ told_as number node es st file l marks e of_file stands (acting is are) ends =
     still_told number node.0 node es marks (acts_still node file.number marks are)
     ∙ sym (none_told e (told number node.0 es) (sym ends ∙ acts_no_ends file.number marks are))
 
--- of another file, nothing is told
+-- of another file, nothing is reported
 pub told_of_other : (number n : ℕ) (node : NodeId) (es : List Entry) (file : FileId) (l : LeaseState) (marks : List Mark) → (IsBusy l → file.number ≢ number) → MarksAre file l marks
     → told number n (es ++ map (entry_of node) marks) ≡ told number n es
 told_of_other number n node es file l marks other (no_marks none) = no_marks_told number n node es marks none
@@ -105,7 +105,7 @@ clock_stays number node es marks st is (wins file end held_is) =
     pushed : standing node number (es ++ map (entry_of node) marks) ≡ standing_after node number (standing node number es) (entry.Held node file end)
     pushed = ap (λ (ms : List Mark). standing node number (es ++ map (entry_of node) ms)) held_is ∙ standing-push node number es (entry.Held node file end)
 
--- and of no other node is anything told
+-- and nothing is reported of any other node
 pub told_elsewhere : (number n : ℕ) (node : NodeId) (es : List Entry) (marks : List Mark) → n ≢ node.0 → MarksFit node es marks → told number n (es ++ map (entry_of node) marks) ≡ told number n es
 told_elsewhere number n node es marks ne (inert are) = still_told number n node es marks (inert_still node marks are)
 told_elsewhere number n node es marks ne (wins file end is) = won_told number n node es marks file end is (inl (λ e. ne (sym e)))

@@ -159,7 +159,7 @@ osd_next w was node r s happens shape found is_up is_osd comes =
 
 -- ---- nodes that are no OSDs
 
--- what a step of such a node owes of leases: nothing
+-- what must hold of a step of such a node as to leases: it changes nothing
 shown_other : (w : World) (was : List Msg) (node : Node) (r : Running) (next : Core) (turned : Turned) → IsShaped w was → node_in w.nodes node.id.0 ≡ Some node → IsOther node.role
     → MarksFit node.id w.entries turned.marks → ((m : Msg) → Has m turned.outs → lease_file m.payload ≡ None) → (file : FileId) (members : List NodeId) → AreMembers (known w) file members
     → (row : RowStep) × IsStep (file_setting w.times file members) w node r next turned row × IsReached (file_setting w.times file members) (row_stepped (lease_view (file_setting w.times file members) w was) node.id row)
@@ -193,7 +193,7 @@ stands_other w was node r next turned shape found is_up marks ends number =
 abbrev pub IsSaid : List PlacedFile → Payload → Type 0
 IsSaid files content = PayloadFits files content × (lease_file content ≡ None)
 
--- what a client's step owes: it asks and holds nothing but what is of known files, and it makes no file
+-- what must hold of a client's step: it asks and holds nothing but what is of known files, and it makes no file
 pub record ClientStepFits (files : List PlacedFile) (step : Step WholeClient) : Type 0 where
   pub client : ClientFits files step.state
   pub payloads : (m : Msg) → Has m step.turned.outs → IsSaid files m.payload
@@ -396,7 +396,7 @@ listing_no_lease : (content : Payload) → IsListing content → lease_file cont
 listing_no_lease (payload.RegistryReply number told) is = refl
 listing_no_lease _ is = absurd is
 
--- what the metadata server of a world has made is told
+-- what the metadata server of a world has made is reported
 told_made : (w : World) (was : List Msg) (node : Node) (r : Running) → IsShaped w was → node_in w.nodes node.id.0 ≡ Some node → node.up ≡ Some r → node.role ≡ role.Mrc → w.made ≡ made_in node
 told_made w was node r shape found is_up server =
     running_made w.made (made_in node) node.up r is_up

@@ -103,7 +103,7 @@ wakes_of file site x l step (resting p) = (stays_so x, p, λ m h. absurd h)
 
 -- ---- an event
 
--- what an OSD's step owes in general: its state, its record and its marks
+-- what must hold of an OSD's step in general: its state, its record and its marks
 pub record StepFits (w : World) (node : Node) (r : Running) (s : OsdState) (o : OsdStep) : Type 0 where
   pub started : o.osd.started ≡ s.started
   pub fits : OsdFits w.times (known w) node.id r.boot r.clock o.osd
@@ -131,7 +131,7 @@ Comes w was node (event.Deliver msg) = (msg.to ≡ node) × Has msg (was ++ mess
 Comes w was node event.Wake = Unit {0}
 Comes w was node (event.Call call) = Unit {0}
 
--- what an event at an OSD owes
+-- what must hold of an event at an OSD
 pub record EventAt (w : World) (was : List Msg) (node : Node) (r : Running) (s : OsdState) (o : OsdStep) : Type 0 where
   pub shows : (file : FileId) (members : List NodeId) → AreMembers (known w) file members → Shows (file_setting w.times file members) w was node s o
   pub all_fits : StepFits w node r s o

@@ -1,4 +1,4 @@
--- An OSD's asks have begun on their files, and it tells of such calls alone.
+-- An OSD's asks have begun on their files, and it reports such calls alone.
 use Rattle.std.proofs.Common.{◌≡◌, ℕ, ◌⊎◌, inl, inr, List, [], ◌∷◌, ◌++◌, refl, ap, subst, sym, ◌∙◌, Option, Some, None, Bool, true, false}
 use Rattle.std.specs.Prelude.{cond, max}
 use Rattle.xt_base.specs.declared.ids.NodeId.{NodeId}
@@ -72,7 +72,7 @@ marks_end_none file l marks (acting is are) = acts_end_none file.number marks ar
 abbrev pub FilesAre : List Entry → List FileState → Type 0
 FilesAre es files = (f : FileState) → Has f files → FileIs (λ (id : OpId). HasBegunOn f.kept.file.number es id) f
 
--- an ask that comes has begun, and its file is told to be there
+-- an ask that comes has begun, and the trace reports its file
 abbrev pub HasBegun : List Entry → NodeId → Payload → Type 0
 HasBegun es from (payload.Ask number capability asked) =
     HasBegunOn capability.file.number es (id_of from number) × (location_in capability.file.number es ≡ Some capability.location)
@@ -86,7 +86,7 @@ IsStriped es m = (number : ℕ) × (file : FileId) × (answer : Reply) × (m.pay
 abbrev pub IsTold : List Entry → List Mark → Msg → Type 0
 IsTold es marks m = ((file : ℕ) × Said (λ (id : OpId). HasBegunOn file es id) file marks m.to m.payload) ⊎ IsStriped es m
 
--- what the step of an OSD owes
+-- what must hold of the step of an OSD
 pub record OsdIs (es : List Entry) (files : List FileState) (turned : Turned) : Type 0 where
   pub files_are : FilesAre es files
   pub told : (m : Msg) → Has m turned.outs → IsTold es turned.marks m
@@ -157,7 +157,7 @@ message_is es site awake files msg (Some file) concerns are begun =
 
 -- ---- a Wake
 
--- what a step of each file owes
+-- what must hold of a step of each file
 record EachIs (es : List Entry) (files : List FileState) (turned : Turned) : Type 0 where
   pub files_are : FilesAre es files
   pub told : (m : Msg) → Has m turned.outs → IsTold es turned.marks m

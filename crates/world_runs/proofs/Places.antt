@@ -1,4 +1,4 @@
--- the trace tells where each file is
+-- the trace reports where each file is
 use Rattle.std.proofs.Common.{◌≡◌, ℕ, List, [], ◌∷◌, ◌++◌, map, refl, ap, sym, ◌∙◌, subst, arith, Option, Some, None, Bool, true, false}
 use Rattle.std.specs.Prelude.{◌==◌, cond, if◌then◌else◌}
 use Rattle.std.specs.Option.{option_or}
@@ -22,11 +22,11 @@ abbrev pub place_of : Option PlacedFile → Option Location
 place_of None = None
 place_of (Some f) = Some f.location
 
--- each file that is known is told where it is
+-- the trace reports where each known file is
 abbrev pub AreTold : List PlacedFile → List Entry → Type 0
 AreTold files es = (number : ℕ) → location_in number es ≡ place_of (file_in files number)
 
--- entries that tell of no place
+-- entries that report no place
 abbrev pub NoPlaces : List Entry → Type 0
 NoPlaces more = (number : ℕ) → location_in number more ≡ None
 
@@ -35,7 +35,7 @@ unfolding location_in
 location-append number [] ys = refl
 location-append number (x ∷ xs) ys = rw (location-append number xs ys) (or_assoc (location_told number x) (location_in number xs) (location_in number ys))
 
--- a place that is told stays so
+-- a place that is reported stays so
 pub location-grown : (number : ℕ) (xs ys : List Entry) (location : Location) → location_in number xs ≡ Some location → location_in number (xs ++ ys) ≡ Some location
 location-grown number xs ys location is = location-append number xs ys ∙ ap (λ (o : Option Location). option_or o (location_in number ys)) is
 
@@ -95,7 +95,7 @@ place_or None true f = refl
 place_or None false f = refl
 place_or (Some x) b f = refl
 
--- a file is told that is known last
+-- a file is reported that is known last
 pub told_last : (files : List PlacedFile) (es : List Entry) (f : PlacedFile) → AreTold files es → AreTold (files ++ f ∷ []) (es ++ file_entry f ∷ [])
 told_last files es f told k =
     location-append k es (file_entry f ∷ [])

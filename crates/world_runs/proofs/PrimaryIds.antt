@@ -48,7 +48,7 @@ abbrev pub TenureIs : (OpId → Type 0) → Option Tenure → Type 0
 TenureIs Q None = Unit {0}
 TenureIs Q (Some t) = ProgressIs Q t.progress
 
--- what a row of a primary owes
+-- what must hold of a row of a primary
 pub record LedSaid (Q : OpId → Type 0) (file : ℕ) (led : Led) : Type 0 where
   pub tenure : TenureIs Q led.primary.tenure
   pub said : AreSaid Q file led.turned.marks led.turned.outs

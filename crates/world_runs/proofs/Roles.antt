@@ -1,4 +1,4 @@
--- the metadata server among the nodes: it is one, and what is made is what its records tell
+-- the metadata server among the nodes: it is one, and what is made is what its records say
 use Rattle.std.proofs.Common.{◌≡◌, inl, inr, List, [], ◌∷◌, ◌++◌, refl, ap, sym, ◌∙◌, subst, Some, None}
 use Rattle.std.specs.Prelude.{◌⊎◌}
 use Rattle.xt_base.specs.declared.TheConstants.{MRC_NODE}

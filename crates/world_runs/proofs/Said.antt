@@ -1,4 +1,4 @@
--- Of what an OSD tells clients, and of which asks: each Ok is marked, and of an ask that has come.
+-- Of what an OSD answers clients, and to which asks: each Ok is marked, and of an ask that has come.
 use Rattle.std.proofs.Common.{◌≡◌, ℕ, inl, inr, List, [], ◌∷◌, ◌++◌, map, subst, sym, Option, Some, None}
 use Rattle.std.specs.Prelude.{flat_map}
 use Rattle.xt_base.specs.declared.ids.NodeId.{NodeId}

@@ -90,7 +90,7 @@ pub record NodesFit (nodes after : List Node) (es : List Entry) : Type 0 where
   pub each : (n : ℕ) (x : Node) → node_in after n ≡ Some x → UpIs es x.id x.up
   pub strangers : (n : ℕ) → node_in after n ≡ None → FreshFrom es (node_id n) 0
 
--- an entry that begins and ends no call, and tells of no place
+-- an entry that begins and ends no call, and reports no place
 pub record IsInert (e : Entry) : Type 0 where
   pub begins : (id : OpId) → call_begun id e ≡ None
   pub ends : (es : List Entry) → EntryIs es e
@@ -179,7 +179,7 @@ tick_fit files nodes es sent count fit = record { each = λ n x is. each n x (no
 
 -- ---- a step of a node
 
--- what a step owes, its entries after these
+-- what must hold of a step, its entries after these
 pub record Owes (es : List Entry) (node : NodeId) (core : Core) (turned : Turned) : Type 0 where
   pub core_is : CoreIs (es ++ map (entry_of node) turned.marks) node core
   pub sent : (m : Msg) → Has m turned.outs → ContentIs (es ++ map (entry_of node) turned.marks) m.from m.to m.payload
@@ -241,7 +241,7 @@ stepped_fits w was own node r next turned outs within fewer found owes fit =
       | inr ne ↦ fresh-grown w.entries (map (entry_of node.id) turned.marks) (node_id n) 0 (quiet-marks (node_id n) node.id turned.marks ne) (fit.strangers n (sym (node_in-other w.nodes (next_node node r next turned) n ne) ∙ none))
     ]
 
--- ---- what each step owes
+-- ---- what must hold of each step
 
 pub osd_owes : (es : List Entry) (node : Node) (s : OsdState) (reading : ℕ) (happens : Event) → EntriesAre es → FilesAre es s.files → EventHasBegun es happens
     → Owes es node.id (osd (step_of_osd (outside_of node.kept) s reading happens).osd) (step_of_osd (outside_of node.kept) s reading happens).turned
@@ -422,7 +422,7 @@ call_owes es node times c reading k answered is fits =
 
 -- ---- a client that is about to use a file
 
--- what it holds is of files that are told, and it has begun no more calls
+-- what it holds is of files that the trace reports, and it has begun no more calls
 pub ready_is : (es : List Entry) (node : NodeId) (files made : List PlacedFile) (c : WholeClient) (k : Call) (file : Option ℕ) → AreTold (files ++ made) es → CallerIs es node c → CallerIs es node (ready_for files c k file)
 ready_is es node files made c k None told is = is
 ready_is es node files made c k (Some number) told is = at (file_in files number) refl
@@ -441,7 +441,7 @@ ready_is es node files made c k (Some number) told is = at (file_in files number
 
 -- ---- the servers
 
--- what is granted of known files is of files that are told
+-- what is granted of known files is of files that the trace reports
 content_known : (es : List Entry) (files : List PlacedFile) (from to : NodeId) (content : Payload) → AreTold files es → IsServed content → PayloadFits files content → ContentIs es from to content
 content_known es files from to (payload.MetaReply number told) told_so served fits = granted told fits
   where
@@ -455,7 +455,7 @@ content_known es files from to (payload.Ask number capability asked) told_so ser
 content_known es files from to (payload.Reply number file said) told_so served fits = absurd served
 content_known es files from to _ told_so served fits = tt
 
--- a step of the metadata server, whose records made what was told
+-- a step of the metadata server, whose records made what was reported
 pub mrc_owes : (es : List Entry) (files made : List PlacedFile) (node : NodeId) (m : MrcState) (reading : ℕ) (happens : Event) (records : List Record) → EntriesAre es → AreTold (files ++ made) es → AreDeclared files
     → m.catalogue ≡ catalogue_of world_key records → made ≡ files_in m.catalogue → (let step = step_of_mrc world_key m reading happens in Owes es node (mrc step.mrc) step.turned)
 mrc_owes es files made node m reading happens records answered told declared is made_is =

@@ -24,7 +24,7 @@ file_setting times file members = record { file = file; list = 1; members = memb
 abbrev pub node_id : ℕ → NodeId
 node_id n = record { 0 = n }
 
--- the end of the lease that a node held last since its start, as the trace tells it
+-- the end of the lease that a node held last since its start, as the trace reports it
 abbrev pub end_in : Option RunningBoot → Option ℕ
 end_in None = None
 end_in (Some s) = s.end

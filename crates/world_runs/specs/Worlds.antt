@@ -168,8 +168,8 @@ AreDeclared files = (f : PlacedFile) → Has f files → (f.file ≡ declared_fi
 abbrev pub IsFront : List PlacedFile → List PlacedFile → Type 0
 IsFront front whole = (later : List PlacedFile) × (whole ≡ front ++ later)
 
--- The files that were told are those that the metadata server's records made, in the order of making: all of them while it runs, and a
--- front of them while it has stopped, since its last record may be kept and not told.
+-- The files that were reported are those that the metadata server's records made, in the order of making: all of them while it runs,
+-- and a front of them while it has stopped, since its last record may be kept and not reported.
 abbrev pub MadeUp : List PlacedFile → List PlacedFile → Option Running → Type 0
 MadeUp made records_made None = IsFront made records_made
 MadeUp made records_made (Some r) = made ≡ records_made

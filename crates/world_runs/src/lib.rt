@@ -41,7 +41,7 @@ pub fn holders_act()
 {}
 
 /// What holds of the world at every moment of a run, also in the midst of a line: what an OSD has of a file is what its records
-/// say, and is sound; what the servers know is what their records say, and the files that the metadata server made are told in the
+/// say, and is sound; what the servers know is what their records say, and the files that the metadata server made are reported in the
 /// order of making; lists, asks, grants, reports and what clients hold are of files that are declared or made; nodes stand in the
 /// trace as they run; who has a lease holds its file by the trace; and no two nodes lead a file.
 pub fn worlds_are_in_order()

@@ -1,4 +1,4 @@
--- which asks may come to a file, and what becomes of the others
+-- which asks can arrive at a file, and what becomes of the others
 use Rattle.std.proofs.Common.{◌≡◌, ℕ, inl, inr, List, [], ◌∷◌, ◌++◌, refl, ap, sym, ◌∙◌, subst, Option, Some, None, Bool, true, false}
 use Rattle.std.specs.Prelude.{◌⊎◌, cond}
 use Rattle.xt_base.specs.declared.ids.NodeId.{NodeId}

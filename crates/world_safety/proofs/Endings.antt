@@ -32,7 +32,7 @@ use Rattle.world_safety.proofs.Rooms.{may_append, after_append, Room, makes_room
 use Rattle.world_safety.proofs.Shown.{one_says}
 
 module _ (stripe : ℕ) (ops : ℕ × ℕ → Op) (members : List ℕ) (file : FileId) (w : World) (own : List Msg) (node : Node) (r : Running) (s : OsdState) (order : IsInOrder w own) (its : RunsAs w node r s) where
-  -- A step that ends so, of which nothing is told or sent.
+  -- A step that ends so, of which nothing is reported or sent.
   ended : (happens : Happening) (how : Ending) (there : Node) (q : Running) (halt : Halt) (v : FileWorld)
       → (let after_it = halted w there q halt in (u : FileWorld) → Sees file w u → Sees file after_it (after u (acts node.id.0 (file_seen file s) (site_at node r s) happens how)))
       → (let after_it = halted w there q halt in (u : FileWorld) → LeadersHold file w u → LeadersHold file after_it (after u (acts node.id.0 (file_seen file s) (site_at node r s) happens how)))

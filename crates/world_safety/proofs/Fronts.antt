@@ -11,7 +11,7 @@ use Rattle.time_line.specs.Verdicts.{Clause, apart, acting, one_order, once, sho
 use Rattle.world_runs.proofs.Entries.{begun_on-grown, position-grown}
 use Rattle.world_runs.proofs.Fresh.{answered_fresh}
 
--- where a file stands in a front, it stands there in the trace
+-- where a file is in a front, it is in the trace
 or_grows : (o p q : Option Location) (l : Location) → (p ≡ Some l → q ≡ Some l) → option_or o p ≡ Some l → option_or o q ≡ Some l
 or_grows None p q l grows is = grows is
 or_grows (Some k) p q l grows is = is

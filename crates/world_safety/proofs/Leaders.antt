@@ -1,4 +1,4 @@
--- that a step of a node is an event that may come in the file's world, and that who leads still holds after it
+-- that a step of a node is an event that can happen in the file's world, and that who leads still holds after it
 use Rattle.std.proofs.Common.{◌≡◌, ◌≢◌, ℕ, inl, inr, List, refl, ap, sym, ◌∙◌, subst, Option, Some, None, Bool, true, false}
 use Rattle.std.specs.Prelude.{◌⊎◌, ◌==◌, cond}
 use Rattle.xt_base.specs.declared.ids.FileId.{FileId}

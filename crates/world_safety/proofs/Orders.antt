@@ -1,4 +1,4 @@
--- What a trace says of a file where what it tells of it fits one order, and its acts are of calls that have begun.
+-- What a trace says of a file where what it reports of it fits one order, and its acts are of calls that have begun.
 use Rattle.std.proofs.Common.{◌≡◌, ℕ, ◌==◌, if◌then◌else◌, List, ◌∷◌, ◌++◌, Some, None, refl, sym, ap, ◌∙◌, subst, append_assoc}
 use Rattle.xt_base.specs.declared.ids.OpId.{OpId}
 use Rattle.time_line.specs.declared.entry.Entry.{Entry}

@@ -101,7 +101,7 @@ some_epoch = record { number = 0; node = record { 0 = 0 } }
 some_stamp : Stamp
 some_stamp = record { epoch = record { number = 0; node = record { 0 = 0 } }; count = 0 }
 
--- ---- what a step stands on
+-- ---- what a step depends on
 
 -- an event at an OSD, of whose messages these go out, in a world of a run
 pub record At (w : World) (was own : List Msg) (node : Node) (r : Running) (s : OsdState) (happens : NodeEvent.Event) (outs : List Msg) : Type 0 where
@@ -167,7 +167,7 @@ module _ (stripe : ℕ) (ops : ℕ × ℕ → Op) (members : List ℕ) (file : F
       subst (λ (ms : List Mark). TellsAs stripe ops file.number (w.entries ++ map (entry_of node.id) ms) (record { node = node.id.0; marks = (step_on site f how).turned.marks } ∷ v.tales)) (sym same)
       ((telling stripe ops file.number).step w.entries v.tales node.id site f how its_number told)
 
-  -- a status that the OSD told itself is of the head that it has
+  -- a status that the OSD sent itself is of the head that it has
   told_so : (from : NodeId) (content : Payload) → s.started.node.0 ≡ node.id.0 → TellsOwn s from content → file_concerned content ≡ Some file → OwnTells node.id.0 f.kept.head from content
   told_so from (payload.Status which epoch head) mine tells concerns = λ is v h.
       let same = tells (is ∙ sym mine) ∙ ap (λ (g : FileId). (file_seen g s).kept.head) (one_file which file concerns) in
@@ -182,7 +182,7 @@ module _ (stripe : ℕ) (ops : ℕ × ℕ → Op) (members : List ℕ) (file : F
       told_so msg.from msg.payload (here x.fit x.its)
       (own_status w node r s x.its.found x.its.up x.its.core was msg (subst (Reaches w was node.id) is x.reaches) x.waiting) concerns
 
-  -- an ask may come, or it asks for what leaves the object
+  -- an ask can arrive at the file, or it asks for what leaves the object
   come_or_outside : (msg : Msg) → file_concerned msg.payload ≡ Some file → IsFit w was → Fits w was → Has msg (was ++ messages w) → KnownList (known w) file stripe members → AreOperations ops file.number w.entries
       → AskComes stripe ops members msg.from msg.payload ⊎ IsOutside msg.payload
   come_or_outside msg concerns fit ends arrived listed are =

@@ -1,4 +1,4 @@
--- the trace tells where each file is, within the limits
+-- the trace reports where each file is, within the limits
 use Rattle.std.proofs.Common.{◌≡◌, ℕ, inl, inr, List, [], ◌∷◌, sym, subst, Some}
 use Rattle.std.specs.List.{AllByRecursion}
 use Rattle.xt_messages.specs.Limits.{FitsLocation}

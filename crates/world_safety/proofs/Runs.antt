@@ -120,12 +120,12 @@ placed_at (Some location) is = (location, refl, at location.kind is)
 some_file : (a b : PlacedFile) → Some a ≡ Some b → a ≡ b
 some_file a b is = cc
 
--- a place that is told is that of a file
+-- a place that is reported is that of a file
 placed_file : (o : Option PlacedFile) (location : Location) → place_of o ≡ Some location → (f : PlacedFile) × (o ≡ Some f) × (location ≡ f.location)
 placed_file None location is = absurd (cc)
 placed_file (Some f) location is = (f, refl, (let same : f.location ≡ location = cc in sym same))
 
--- what the trace of a stage tells of it
+-- what the trace of a stage reports of it
 pub was_told : (w : World) → ArePlaced w → Stage w [] → FilesAreSafe w.entries
 was_told w placed stage number is =
     let place = placed_at (location_in number w.entries) is in

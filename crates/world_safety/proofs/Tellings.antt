@@ -1,4 +1,4 @@
--- what the trace of a world tells of a file, and what the tales of the file's world do
+-- what the trace of a world reports of a file, and what the tales of the file's world do
 use Rattle.std.proofs.Common.{◌≡◌, ◌≤◌, ◌==◌, ℕ, List, [], ◌∷◌, map, refl, ap, sym, ◌∙◌, subst, Some, None, Bool, true, false, if◌then◌else◌}
 use Rattle.xt_base.specs.declared.ids.NodeId.{NodeId}
 use Rattle.xt_base.specs.declared.ids.OpId.{OpId}
@@ -38,7 +38,7 @@ apart true node is = absurd (cc)
 apart false node is = refl
 
 module _ (stripe : ℕ) (ops : ℕ × ℕ → Op) (file : ℕ) where
-  -- an act on another file tells nothing
+  -- an act on another file reports nothing
   skips : (b : Bool) (x : heads.Entry) (before : List heads.Entry) → b ≡ false → before ≡ (if b then x ∷ before else before)
   skips b x before is = sym (ap (λ (b : Bool). if b then x ∷ before else before) is)
 

@@ -1,4 +1,4 @@
--- which asks may come to a file, and what becomes of the others
+-- which asks can arrive at a file, and what becomes of the others
 use Rattle.std.specs.Prelude.{◌≡◌, ◌⊎◌, true, ℕ, Option, Some, None, List, ◌++◌}
 use Rattle.xt_base.specs.declared.ids.NodeId.{NodeId}
 use Rattle.xt_base.specs.declared.ids.FileId.{FileId}
@@ -47,8 +47,8 @@ IsOutside _ = ⊥
 abbrev pub KnownList : List PlacedFile → FileId → ℕ → List ℕ → Type 0
 KnownList files file stripe members = (k : PlacedFile) → file_in files file.number ≡ Some k → (k.file ≡ file) × IsList stripe members k.location
 
--- A message that concerns the file: an ask on the known list, of a call that has begun so, may come to the file, or it asks for what
--- leaves the object; every other message may come.
+-- A message that concerns the file: an ask on the known list, of a call that has begun so, can arrive at the file, or it asks for
+-- what leaves the object; every other message can arrive.
 abbrev pub MessagesCome : Type 0
 MessagesCome =
     (stripe : ℕ) (ops : ℕ × ℕ → Op) (members : List ℕ) (files : List PlacedFile) (entries : List Entry) (file : FileId) (from : NodeId) (content : Payload)
@@ -61,7 +61,7 @@ pub record IsSameButSent (a b : FileStep) : Type 0 where
   pub rec : a.turned.rec ≡ b.turned.rec
   pub marks : a.turned.marks ≡ b.turned.marks
 
--- An ask for what leaves the object does to the file what a Fetch does, which shows nothing and may come at any time; only what is
+-- An ask for what leaves the object does to the file what a Fetch does, which shows nothing and can happen at any time; only what is
 -- sent is different.
 abbrev pub OutsideIsIdle : Type 0
 OutsideIsIdle =

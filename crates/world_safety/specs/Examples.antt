@@ -1,4 +1,4 @@
--- A run in which a replica that was behind makes the majority.
+-- A run in which a replica that lacked writes makes the majority.
 use Rattle.std.specs.Prelude.{ℕ, List, [], ◌∷◌, ◌++◌}
 use Rattle.time_line.specs.declared.entry.Halt.TheVariants as halt
 use Rattle.time_line.specs.declared.line.Line.{Line}

@@ -1,4 +1,4 @@
--- that a step of a node is an event that may come in the file's world, and that who leads still holds after it
+-- that a step of a node is an event that can happen in the file's world, and that who leads still holds after it
 use Rattle.std.specs.Prelude.{◌≡◌, ℕ, Some, None, List}
 use Rattle.xt_base.specs.declared.ids.FileId.{FileId}
 use Rattle.xt_messages.specs.declared.file.Op.{Op}
@@ -15,8 +15,8 @@ use Rattle.world_safety.specs.Seen.{file_seen, Sees}
 use Rattle.world_safety.specs.Events.{RunsAs, site_at}
 use Rattle.world_safety.specs.May.{LeadersHold}
 
--- In a world that is in order, where who leads holds, a step of a file at a running OSD may come, if its message may; and if nobody
--- else holds where it leaves the lease held.
+-- In a world that is in order, where who leads holds, a step of a file at a running OSD can happen, if its message can arrive; and
+-- if nobody else holds where it leaves the lease held.
 abbrev pub StepsMay : Type 0
 StepsMay =
     (stripe : ℕ) (ops : ℕ × ℕ → Op) (members : List ℕ) (file : FileId) (w : World) (own : List Msg) (node : Node) (r : Running) (s : OsdState) (v : FileWorld)
@@ -25,7 +25,7 @@ StepsMay =
     → MayEnd (step_on (site_at node r s) (file_seen file s) happens) how
     → May stripe ops members v (acts node.id.0 (file_seen file s) (site_at node r s) happens how)
 
--- Behind a step who leads holds, if nobody else leads where the step leaves a tenure.
+-- After a step who leads holds, if nobody else leads where the step leaves a tenure.
 abbrev pub LeadersGoOn : Type 0
 LeadersGoOn =
     (file : FileId) (w after : World) (node : Node) (r : Running) (s : OsdState) (v : FileWorld) (step : FileStep) → after.nodes ≡ with_node w.nodes node

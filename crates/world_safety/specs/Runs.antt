@@ -31,14 +31,14 @@ abbrev pub WasSent : Msg → FileWorld → Type 0
 WasSent m v = Has (record { from = m.from.0; content = m.payload }) v.sent ⊎ (shown m.from.0 m.payload ≡ [])
 
 -- A world of the file alone is what a world shows of it, in the midst of a line with the messages of a node to itself that it hasn't
--- handled: it has the nodes; who leads holds; each message about the file was sent; and the trace tells what the tales tell.
+-- handled: it has the nodes; who leads holds; each message about the file was sent; and the trace reports what the tales report.
 pub record IsShownBy (stripe : ℕ) (ops : ℕ × ℕ → Op) (file : FileId) (w : World) (own : List Msg) (v : FileWorld) : Type 0 where
   pub sees : Sees file w v
   pub leaders : LeadersHold file w v
   pub sent : (m : Msg) → Has m (own ++ messages w) → file_concerned m.payload ≡ Some file → WasSent m v
   pub told : TellsAs stripe ops file.number w.entries v.tales
 
--- These events may come in a world of the file, and lead to what a world shows of it.
+-- These events can happen in a world of the file, and lead to what a world shows of it.
 pub record LeadsTo (stripe : ℕ) (ops : ℕ × ℕ → Op) (members : List ℕ) (file : FileId) (w : World) (own : List Msg) (v : FileWorld) : Type 0 where
   pub events : List Event
   pub may : MayAll stripe ops members v events
@@ -69,13 +69,13 @@ abbrev pub place_of : Option PlacedFile → Option Location
 place_of None = None
 place_of (Some f) = Some f.location
 
--- The trace tells where each file is, declared or made, within the limits.
+-- The trace reports where each file is, declared or made, within the limits.
 pub record ArePlaced (w : World) : Type 0 where
   pub told : (number : ℕ) → location_in number w.entries ≡ place_of (file_in (known w) number)
   pub fit : (number : ℕ) (f : PlacedFile) → file_in (known w) number ≡ Some f → FitsLocation f.location
 
--- What the trace tells of a file fits one order of writes and truncations, each issued first; so none stands there twice, and each answer
--- shows the order as it was.
+-- What the trace reports of a file fits one order of writes and truncations, each issued first; so no write is in it twice, and each
+-- answer shows the order as it was.
 pub record HasOneOrder (stripe : ℕ) (ops : ℕ × ℕ → Op) (file : ℕ) (entries : List Entry) : Type 0 where
   pub told : List heads.Entry
   pub tells : Tells stripe ops file entries [] told

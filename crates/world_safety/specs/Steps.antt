@@ -19,7 +19,7 @@ use Rattle.world_safety.specs.Seen.{file_seen, Sees}
 use Rattle.world_safety.specs.Events.{RunsAs, IsAwake, site_at, stepped}
 use Rattle.world_safety.specs.May.{LeadersHold}
 
--- These events may come in the file's world, and lead to what the world shows of the file after the step: who leads holds, and what
+-- These events can happen in the file's world, and lead to what the world shows of the file after the step: who leads holds, and what
 -- the file's step sends and marks is added.
 pub record IsRun (stripe : ℕ) (ops : ℕ × ℕ → Op) (members : List ℕ) (file : FileId) (after : World) (n : ℕ) (v : FileWorld) (step : FileStep) : Type 0 where
   pub events : List Event

@@ -1,4 +1,4 @@
--- what the trace of a world tells of a file, and what the tales of the file's world do
+-- what the trace of a world reports of a file, and what the tales of the file's world do
 use Rattle.std.specs.Prelude.{◌≡◌, ◌≤◌, false, ◌==◌, ℕ, None, List, [], ◌∷◌, ◌++◌, map}
 use Rattle.xt_base.specs.declared.ids.NodeId.{NodeId}
 use Rattle.xt_messages.specs.declared.event.Mark.{Mark}
@@ -18,12 +18,12 @@ use Rattle.time_line.specs.declared.entry.Entry.{Entry}
 use Rattle.time_line.specs.Clauses.{acts_on}
 use Rattle.world_spec.specs.NodeSteps.{entry_of}
 
--- what the tales of the file's world tell, the trace tells
+-- what the tales of the file's world report, the trace reports
 abbrev pub TellsAs : ℕ → (ℕ × ℕ → Op) → ℕ → List Entry → List Tale → Type 0
 TellsAs stripe ops file entries tales = (es : List heads.Entry) → files.Tells stripe ops tales es → Tells stripe ops file entries [] es
 
--- It begins so. An entry that is no act on the file tells nothing, nor do acts on another file; and what a step of the file marks, its
--- tale tells.
+-- It begins so. An entry that is no act on the file reports nothing of it, nor do acts on another file; and what a step of the file
+-- marks, its tale reports.
 pub record Telling (stripe : ℕ) (ops : ℕ × ℕ → Op) (file : ℕ) : Type 0 where
   pub begins : TellsAs stripe ops file [] []
   pub entry : (entries : List Entry) (tales : List Tale) (e : Entry) → acts_on file e ≡ None → TellsAs stripe ops file entries tales → TellsAs stripe ops file (entries ++ e ∷ []) tales
@@ -36,8 +36,8 @@ pub record Telling (stripe : ℕ) (ops : ℕ × ℕ → Op) (file : ℕ) : Type 
 abbrev pub AlwaysTelling : Type 0
 AlwaysTelling = (stripe : ℕ) (ops : ℕ × ℕ → Op) (file : ℕ) → Telling stripe ops file
 
--- A trace that tells what the tales of a run of the file tell, where the run begins with nothing written, has one order of the file's
--- writes, none stands there twice, and each answer on the file shows it as it was.
+-- A trace that reports what the tales of a run of the file report, where the run begins with nothing written, has one order of the
+-- file's writes, no write is in it twice, and each answer on the file shows it as it was.
 abbrev pub TellingIsSafe : Type 0
 TellingIsSafe =
     (stripe : ℕ) (ops : ℕ × ℕ → Op) (file : ℕ) (members : List ℕ) (start : Start) (v : FileWorld) (events : List Event) (entries : List Entry) → 1 ≤ stripe

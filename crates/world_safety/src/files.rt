@@ -69,7 +69,7 @@ pub fn what_does_not_show()
     ensures declared { DeclaredRest }
 {}
 
-/// In a world that is in order a step of a file at an OSD stands on what the file's node is, and an unlapsed tenure leads.
+/// In a world that is in order a step of a file at an OSD starts from what the file's node is, and an unlapsed tenure leads.
 pub fn steps_stand_on_the_node()
     ensures { StepsStand }
 {}
@@ -79,23 +79,23 @@ pub fn holders_make_room()
     ensures { HoldersMakeRoom }
 {}
 
-/// What the steps of a file mark, its tales tell; and no other entry of the trace tells anything of the file. Where a trace tells so
-/// what the tales of a run of the file tell, it has one order of the file's writes, none stands there twice, and each answer on the
-/// file shows it as it was.
+/// What the steps of a file mark, its tales report; and no other entry of the trace reports anything of the file. Where a trace reports
+/// so what the tales of a run of the file report, it has one order of the file's writes, no write is in it twice, and each answer on
+/// the file shows it as it was.
 pub fn traces_tell_the_tales()
     ensures telling { AlwaysTelling }
     ensures safe { TellingIsSafe }
 {}
 
-/// A message that concerns a file may come to it, but for an ask for what leaves the object: that is refused, and does to the file what
-/// a message does that may always come. The operations of the calls in a trace are theirs at each moment of it.
+/// A message that concerns a file can arrive at it, but for an ask for what leaves the object: that is refused, and does to the file
+/// what a message does that can always arrive. The operations of the calls in a trace are theirs at each moment of it.
 pub fn messages_may_come()
     ensures come { MessagesCome }
     ensures outside { OutsideIsIdle }
     ensures operations { OperationsAre }
 {}
 
-/// Where who leads in the world holds the file in the file's world, a step of the file may come there; and after a step, and after a
+/// Where who leads in the world holds the file in the file's world, a step of the file can happen there; and after a step, and after a
 /// stop, who leads holds.
 pub fn steps_may_come()
     ensures may { StepsMay }
@@ -110,9 +110,9 @@ pub fn winners_are_alone()
     ensures alone { WinnersAreAlone }
 {}
 
-/// A message to an OSD is a few events of the world of the file that it concerns, which may come there: who doesn't lead loses the file,
-/// where the step wins it; and then the file's step. They lead to what the world shows of the file, and who leads holds. An
-/// ask for what leaves the object is the step of a Fetch.
+/// A message to an OSD is a few events of the world of the file that it concerns, which can happen there: who doesn't lead loses the
+/// file, where the step wins it; and then the file's step. They lead to what the world shows of the file, and who leads holds. An ask
+/// for what leaves the object is the step of a Fetch.
 pub fn messages_are_runs_of_a_file()
     ensures inside { MessagesRun }
     ensures outside { OutsideRuns }
@@ -128,8 +128,8 @@ pub fn messages_are_of_their_step()
     ensures { SendsAsItself }
 {}
 
-/// What a world shows of a file is what a run of the file comes to, that begins with nothing written; the trace tells what the run's
-/// tales tell, and each message about the file was sent in the run. So it is of each file, after every list of lines, and at each step
+/// What a world shows of a file is what a run of the file comes to, that begins with nothing written; the trace reports what the run's
+/// tales report, and each message about the file was sent in the run. So it is of each file, after every list of lines, and at each step
 /// of a line more.
 pub fn files_are_runs()
     ensures whole { (room : Room) (lines : List Line) → AreLines lines →
@@ -139,7 +139,7 @@ pub fn files_are_runs()
         NextAreRuns (steps k room (begins (run_of room lines) l)) }
 {}
 
-/// The trace tells where each file is, declared or made, within the limits: after every list of lines, and after some steps of a line
+/// The trace reports where each file is, declared or made, within the limits: after every list of lines, and after some steps of a line
 /// more.
 pub fn files_are_placed()
     ensures whole { (room : Room) (lines : List Line) → AreLines lines →
@@ -149,8 +149,8 @@ pub fn files_are_placed()
         IsPartOf room (run_of room lines) l part → ArePlaced part }
 {}
 
-/// What the trace tells of a replicated file fits one order of writes and truncations: each claim is borne out by the order of writes
-/// that the trace gives, no write stands there twice, and each answer shows the order as it was. So it is in every run of any lines,
+/// What the trace reports of a replicated file fits one order of writes and truncations: each claim agrees with the order of writes
+/// that the trace gives, no write is in it twice, and each answer shows the order as it was. So it is in every run of any lines,
 /// and after some steps of a line more.
 pub fn files_are_safe()
     ensures whole { (room : Room) (lines : List Line) → AreLines lines →

@@ -44,7 +44,7 @@ pub fn holders_act()
     ensures { AlwaysHolds acting }
 {}
 
-/// There is one order of a file's writes: whoever becomes active or commits tells its length and its last write.
+/// There is one order of a file's writes: whoever becomes active or commits reports its length and its last write.
 pub fn writes_have_one_order()
     ensures { AlwaysHolds one_order }
 {}
@@ -73,8 +73,8 @@ pub fn safe_traces_are_not_broken()
     ensures nowhere { (entries : List Entry) (b : Break) → IsSafe entries → IsBroken b entries → ⊥ }
 {}
 
-/// Of a trace whose acts on a file are of calls that have begun on it: calls have begun as their operations say. Where what it tells of the
-/// file fits one order, and issues each write first, each write stands once in the order and had begun before, and answers show the
+/// Of a trace whose acts on a file are of calls that have begun on it: calls have begun as their operations say. Where what it reports of
+/// the file fits one order, and issues each write first, each write stands once in the order and had begun before, and answers show the
 /// file as it stands.
 pub fn what_is_told_has_begun()
     ensures begun { (file : ℕ) (entries : List Entry) → ActsHaveBegun file entries →
@@ -87,7 +87,7 @@ pub fn what_is_told_has_begun()
         AnswersShow file entries }
 {}
 
-/// None of this is empty. There is a run in which a write reaches one replica but its primary, nobody is told of it, and the next
+/// None of this is empty. There is a run in which a write reaches one replica but its primary, nobody gets an answer about it, and the next
 /// primary finds it; and one in which it reaches nobody else, and vanishes.
 pub fn writes_are_found_or_vanish()
     ensures found_lines { AreLines found }
@@ -96,7 +96,7 @@ pub fn writes_are_found_or_vanish()
     ensures vanished_file { is_replicated 1 vanished_trace ≡ true }
 {}
 
-/// And one in which a replica starts late and is behind, is brought up to the head, and makes the majority when another one stops.
+/// And one in which a replica starts late and lacks writes, is brought up to the head, and makes the majority when another one stops.
 pub fn a_replica_is_caught_up()
     ensures lines { AreLines caught_up }
     ensures trace { trace_of caught_up ≡ caught_up_trace }

@@ -165,7 +165,7 @@ alone_trace =
     ∷ is_answered 1 10 1 1 [] ∷ is_done 10 1 1 []
     ∷ entry.Begin (node 10) 2 (call.Read 1 0 0 3) ∷ is_answered 1 10 2 1 abc ∷ is_done 10 2 1 abc ∷ []
 
--- There is no room for the promise: the round of the write is won, but the step that would tell so isn't finished.
+-- There is no room for the promise: the round of the write is won, but the step that would report so isn't finished.
 abbrev pub full : List Line
 full =
     short_times ∷ osd_is 1 ∷ client_at 10 0 ∷ start_at 1 0 ∷ file_on (1 ∷ []) ∷ line.Tick 1100 ∷ write_at 10 0 abc ∷ line.Deliver 1 ∷ []
@@ -174,11 +174,11 @@ abbrev pub full_trace : List Entry
 full_trace =
     entry.Times 1000 100 ∷ is_up 10 1 0 ∷ is_up 1 1 0 ∷ entry.File 1 (list_of (1 ∷ [])) ∷ entry.Tick 1100 ∷ writes_at 10 1 0 abc ∷ []
 
--- There is none for the update: the primary became active, and that is the last that is told.
+-- There is none for the update: the primary became active, and that is the last entry of the trace.
 abbrev pub fuller_trace : List Entry
 fuller_trace = full_trace ++ is_held 1 2100 ∷ is_active 1 0 0 0 ∷ is_issued 1 1 10 1 ∷ []
 
--- A client whose truncate epoch is old is told the present one, and uses it from then on.
+-- A client whose truncate epoch is old gets the present one, and uses it from then on.
 abbrev pub taught : List Line
 taught =
     short_times ∷ osd_is 1 ∷ client_at 10 0 ∷ client_at 11 0 ∷ start_at 1 0 ∷ file_on (1 ∷ []) ∷ line.Tick 1100
@@ -387,8 +387,8 @@ abbrev pub writes_second : ℕ → Line
 writes_second id = line.Call (node id) (call.Write 2 0 0 (122 ∷ []))
 
 -- OSD 3 is fed the body of a write, and starts again before its head comes: no record since that start says that the body is
--- needed. A write of another file has it forgotten. So the head that comes late finds it missing, the body is staged anew, and OSD 3
--- counts for the next write, when OSD 2 has stopped.
+-- needed. A write of another file has it forgotten. So the head that comes late finds it missing, the body is staged again, and OSD
+-- 3 counts for the next write, when OSD 2 has stopped.
 abbrev pub fed_again : List Line
 fed_again =
     short_times ∷ osd_is 1 ∷ osd_is 2 ∷ osd_is 3 ∷ client_at 10 0 ∷ start_at 1 0 ∷ start_at 2 0 ∷ start_at 3 0
@@ -412,7 +412,7 @@ fed_again_trace =
     ∷ entry.Down (node 2) 2200 halt.Idle
     ∷ writes_at 10 3 1 (98 ∷ []) ∷ is_issued 1 2 10 3 ∷ is_committed 1 2 10 3 ∷ is_answered 1 10 3 2 [] ∷ is_done 10 3 2 [] ∷ []
 
--- how many messages of these lines tell that a body is missing
+-- how many messages of these lines report that a body is missing
 abbrev pub tells_missing : Payload → Bool
 tells_missing (payload.Missing file epoch object version) = true
 tells_missing _ = false
@@ -421,7 +421,7 @@ unfoldable pub missing_in : Room → List Line → ℕ
 unfolding world_in
 missing_in room lines = count_by (λ s. tells_missing s.message.payload) (world_in room lines).sent
 
--- The holder changes, and changes back. Each time the new one has drawn an epoch and told itself where it stands, and its records
+-- The holder changes, and changes back. Each time the new one has drawn an epoch and sent itself its own head, and its records
 -- are rewritten before it counts that.
 abbrev pub held_in_turn : List Line
 held_in_turn =

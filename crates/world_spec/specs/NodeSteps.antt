@@ -131,8 +131,8 @@ halted w node running how =
       entries = w.entries ++ entry.Down node.id running.clock how ∷ [];
     }
 
--- An append is four device calls: the record is written behind a closed gate, and synced; the gate is opened by a write, and
--- synced. One that is stopped in a call leaves a byte at each place that isn't synced. So its record stands where its gate
+-- An append is four device calls: the record is written after a closed gate, and synced; the gate is opened by a write, and
+-- synced. One that is stopped in a call leaves a byte at each place that isn't synced. So its record counts where its gate
 -- was being opened and the byte is an open gate's.
 abbrev pub keeps_record : Stop → Bool
 keeps_record stop = nat_le 3 stop.call && (stop.fill == open_gate)

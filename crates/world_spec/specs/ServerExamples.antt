@@ -79,7 +79,7 @@ granted_trace =
     ∷ entry.Issue (node 1) new_file 1 first_write ∷ entry.Commit (node 1) new_file 1 first_write ∷ entry.Answer (node 1) new_file first_write 1 []
     ∷ is_done 10 5 1 [] ∷ []
 
--- A stop leaves out the entry of a file whose record is kept: the next start tells it. A later one tells it no more.
+-- A stop leaves out the entry of a file whose record is kept: the next start reports it. A later one doesn't report it again.
 abbrev pub left_out : List Line
 left_out =
     serving ++ line.Crash (node 901) 3 165 ∷ asks 10 makes_file ++ start_at 901 0 ∷ line.Stop (node 901) ∷ start_at 901 0 ∷ []

@@ -1,7 +1,7 @@
 //! A run of a world of nodes of all roles, as definitions: OSDs with replicated and striped files, clients, the metadata server and
 //! the directory service; what each line of a schedule does, step by step, and the entries that it adds to the trace.
 //!
-//! The types here are the parts of a world that hold no lease; a type that holds an OSD's state stands in `specs/`.
+//! The types here are the parts of a world that hold no lease; a type that holds an OSD's state is in `specs/`.
 #![tactic(auto)]
 
 use xt_base::FileId;

@@ -104,7 +104,7 @@ numbered_same nodes x id outs =
     (filter_same (λ (m : Msg). not (m.to.0 == id.0) && is_some (node_in (with_node nodes x) m.to.0)) (λ (m : Msg). not (m.to.0 == id.0) && is_some (node_in nodes m.to.0)) outs
     (λ m. ap (λ (b : Bool). not (m.to.0 == id.0) && b) (declared_same nodes x m.to.0)))
 
--- ---- what is told
+-- ---- what is reported
 
 pub stepped_ok : (old : Working) (stepped : Result Doing Cause) (d : Doing) (new : Working) → stepped ≡ Ok d → new ≡ record old { doing = d }
     → d.world.lines ≡ old.doing.world.lines → d.world.ended ≡ old.doing.world.ended → (stepped ≡ Ok new.doing) × WentOn old new
@@ -181,7 +181,7 @@ one_node nodes place a b one two = the_same a b (sym one.here ∙ two.here)
     the_same : (x y : Node) → Some x ≡ Some y → x ≡ y
     the_same x y e = cc
 
--- a step that is made in place ends as one that is made anew
+-- a step that is made in place ends as one that puts the new state in afterwards
 pub end_again : (room : Room) (d : Doing) (node : Node) (running : Running) (step : Step Core)
     → (let after : Running = record running { core = step.state } in let there : Node = record node { up = Some after } in
     end_of_step room (record d { world = record d.world { nodes = with_node d.world.nodes there } }) there after (record { state = after.core; turned = step.turned }) ≡ end_of_step room d node running step)
@@ -236,11 +236,11 @@ end_again room d node running step =
 
 -- ---- the ways in which a step ends
 
--- the line at work after a step that gave all of this, where nothing is told or queued yet
+-- the line at work after a step that gave all of this, where nothing is reported or queued yet
 abbrev pub gave_of : Working → Node → Option Record → List Msg → Doing
 gave_of was node rec outs = record was.doing { world = given was.doing.world node rec outs }
 
--- what was told, made and queued then
+-- what was reported, made and queued then
 abbrev pub told_of : Doing → List Entry → List PlacedFile → List Msg → Doing
 told_of d entries made own = record d { world = record d.world { made = made; entries = entries }; own = own }
 
@@ -366,7 +366,7 @@ append_done room old new place node running stop rec end there is_end none is =
 
 -- ---- by the state as code has it
 
--- the node stands there, with its record put
+-- the node is there, with its record put
 pub gave_at : (T : Type 0) (room : Room) (was gave : Working) (place : ℕ) (node : Node) (rec : Option Record) (outs : List Msg) (value : T)
     → IsAt was.doing.world.nodes place node → IsGiven {T = T} room was node rec outs gave (Ok value) → IsAt gave.doing.world.nodes place (after_put rec node)
 gave_at T room was gave place node rec outs value at gives =
@@ -390,7 +390,7 @@ gave_not T room was self new place node rec outs e after is at same gives =
     subst (λ (x : Working). Tells (cause_of (ended room node rec (after x.doing))) e × IsUntold x new) is
     (subst (λ (k : Option Cause). Tells k e) (sym (cause_is room was.doing.world node rec outs (after was.doing) same)) given.0, given.1)
 
--- what is given isn't told yet
+-- what is given isn't reported yet
 pub given_untold : (T : Type 0) (room : Room) (was gave new : Working) (node : Node) (rec : Option Record) (outs : List Msg) (value : T) → IsGiven {T = T} room was node rec outs gave (Ok value) → IsUntold gave new → IsUntold was new
 given_untold T room was gave new node rec outs value gives untold =
     record {
@@ -425,7 +425,7 @@ forgot_not T S room was gave new place node rec outs value cause e at gives forg
       given_untold T room was gave new node rec outs value gives ended_so.1,
     )
 
--- what it forgot isn't told
+-- what it forgot isn't reported
 pub forgot_untold : (T S : Type 0) (room : Room) (was gave between new : Working) (place : ℕ) (node : Node) (rec : Option Record) (outs : List Msg) (value : T) (done : S)
     → IsAt was.doing.world.nodes place node → IsGiven {T = T} room was node rec outs gave (Ok value)
     → ((n : Node) → IsAt gave.doing.world.nodes place n → IsStepped {T = S} gave (forgets_if room n.id rec (Ok gave.doing)) between (Ok done))

@@ -81,7 +81,7 @@ pub forgot_ended : (room : Room) (id : NodeId) (rec : Option Record) (d : Doing)
 forgot_ended room id None d = refl
 forgot_ended room id (Some rec) d = ap (λ (w : World). w.ended) (only_nodes room d.world (node_in d.world.nodes id.0))
 
--- what is told, made and queued then doesn't matter to it
+-- what is reported, made and queued then doesn't matter to it
 pub told_later : (room : Room) (id : NodeId) (rec : Option Record) (d : Doing) (entries : List Entry) (made : List PlacedFile) (own : List Msg)
     → (let told : Doing → Doing = λ x. record x { world = record x.world { made = made; entries = entries }; own = own } in forgot room id rec (told d) ≡ told (forgot room id rec d))
 told_later room id None d entries made own = refl
@@ -100,7 +100,7 @@ stays_down room id (Some rec) d node found down =
     at None is = refl
     at (Some running) is = absurd (cc)
 
--- an error that tells of no cause is want of memory, which may come for any
+-- an error that reports no cause is out of memory, which can happen whatever the cause is
 pub tells_any : (cause : Option Cause) (e : WorldErr) → Tells None e → Tells cause e
 tells_any cause (error.Illegal rule) told = told
 tells_any cause (error.Limit what limit) told = absurd (let none = told.0 in cc none)

@@ -1,4 +1,4 @@
--- what hinders a step, by what the hull and the messages tell
+-- what hinders a step, by what the hull and the messages report
 use Rattle.std.proofs.Common.{◌≡◌, Option, Some, None, Err, List, refl, ap, sym, ◌∙◌, subst}
 use Rattle.std.specs.Option.{IfSome}
 use Rattle.xt_messages.specs.declared.message.Msg.{Msg}
@@ -21,14 +21,14 @@ module _ (told : Room) (w : World) (node : Node) (rec : Option Record) (outs : L
   cause_when o is =
       ap (λ (p : Option Overflow). elim p [ Some overflow ↦ Some (has_no_room overflow) | None ↦ hindrance (limit_passed (given w node rec outs).sent) ]) is
 
-  -- the hull has kept the record, or tells why not
+  -- the hull has kept the record, or reports why not
   pub full_told : (T : Type 0) (e : WorldErr) → IsFullOrMemory e → IsFullExactly {T = T} (overflow_of told node.past rec) (Err e) → Tells (cause_against told w node rec outs) e
   full_told T (error.Illegal rule) may is = may
   full_told T (error.Limit what limit) may is = absurd (may)
   full_told T (error.Full need limit) may is = cause_when (Some (record { need = need; limit = limit })) is
   full_told T error.OutOfMemory may is = tt
 
-  -- then the messages pass no limit, or a limit is told
+  -- then the messages pass no limit, or a limit is reported
   pub limits_kept : (sent : List Sent) → overflow_of told node.past rec ≡ None → sent ≡ (given w node rec outs).sent → limit_passed sent ≡ None
       → cause_against told w node rec outs ≡ None
   limits_kept sent fits is none = cause_when None fits ∙ ap hindrance (ap limit_passed (sym is) ∙ none)

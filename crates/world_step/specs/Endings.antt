@@ -57,7 +57,7 @@ cause_against room w node rec outs =
       | None ↦ hindrance (limit_passed (given w node rec outs).sent)
     ]
 
--- The record is kept and the messages are numbered within the limits; or not, and nothing is told.
+-- The record is kept and the messages are numbered within the limits; or not, and nothing is reported.
 abbrev pub IsGiven : {T : Type 0} → Room → Working → Node → Option Record → List Msg → Working → Result T WorldErr → Type 0
 IsGiven room old node rec outs new (Ok value) =
     (cause_against room old.doing.world node rec outs ≡ None)
@@ -108,7 +108,7 @@ Halts old place new =
       };
     }
 
--- the limit that was passed is told
+-- the limit that was passed is reported
 abbrev pub IsWithin : {T : Type 0} → Option Limited → Result T WorldErr → Type 0
 IsWithin passed (Ok value) = passed ≡ None
 IsWithin passed (Err e) = IfSome passed (λ what. e ≡ error.Limit what (limit_of what)) × (passed ≡ None → ⊥)

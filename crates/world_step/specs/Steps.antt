@@ -56,7 +56,7 @@ pub record IsUntold (old new : Working) : Type 0 where
   pub begun : new.begun ≡ old.begun
   pub ended : new.doing.world.ended ≡ old.doing.world.ended
 
--- an error tells of this cause; want of memory may come for any, and no rule is broken within a line
+-- an error reports this cause; out of memory can happen whatever the cause is, and no rule is broken within a line
 abbrev pub Tells : Option Cause → WorldErr → Type 0
 Tells cause (error.Illegal rule) = ⊥
 Tells cause (error.Limit what limit) = (cause ≡ Some (came_to what)) × (limit ≡ limit_of what)
@@ -74,7 +74,7 @@ pub record WentOn (old new : Working) : Type 0 where
   pub lines : new.doing.world.lines ≡ old.doing.world.lines
   pub ended : new.doing.world.ended ≡ old.doing.world.ended
 
--- The step is done; or it isn't finished, and nothing is told of it.
+-- The step is done; or it isn't finished, and nothing is reported of it.
 abbrev pub IsStepped : {T : Type 0} → Working → Result Doing Cause → Working → Result T WorldErr → Type 0
 IsStepped old stepped new (Ok value) = (stepped ≡ Ok new.doing) × WentOn old new
 IsStepped old stepped new (Err e) = Tells (cause_of stepped) e × IsUntold old new

@@ -61,7 +61,7 @@ fn entry_of(node: NodeId, mark: Mark) -> Entry
     }
 }
 
-/// The file that a mark tells, if it tells one.
+/// The file that a mark reports, if it reports one.
 fn file_marked(mark: &Mark) -> Option<PlacedFile>
     ensures { result ≡ file_marked mark.now }
 {
@@ -74,7 +74,7 @@ fn file_marked(mark: &Mark) -> Option<PlacedFile>
     }
 }
 
-/// The files that marks tell, in order.
+/// The files that marks report, in order.
 pub fn files_of(alloc: Global, marks: &[Mark]) -> Result<Vec<PlacedFile>, OutOfMemory>
     ensures { IfOk result (λ files. files.items ≡ files_marked marks.now) }
 {
@@ -87,7 +87,7 @@ pub fn files_of(alloc: Global, marks: &[Mark]) -> Result<Vec<PlacedFile>, OutOfM
     Ok(files)
 }
 
-/// A line of the trace is told. It is a call, so that the line is no part of the way out.
+/// A line is added to the trace. It is a call, so that the line is no part of the way out.
 pub fn tell(entries: &mut Vec<Entry>, entry: Entry) -> Result<(), OutOfMemory>
     ensures items { OnOk result (entries.new.items ≡ entries.old.items ++ entry ∷ []) }
     ensures err { OnErr result (entries.new.items ≡ entries.old.items) }
@@ -120,8 +120,8 @@ pub fn entries_to_cut(
     Ok(entries)
 }
 
-/// Lines of the trace are told, after the others, and files are made. What they were taken from is empty then.
-/// Where memory runs out no line is told and no file is made.
+/// Lines of the trace are added after the others, and files are made. What they were taken from is empty then.
+/// Where memory runs out no line is added and no file is made.
 pub fn tell_all(
     entries: &mut Vec<Entry>,
     made: &mut Vec<PlacedFile>,

@@ -1,4 +1,4 @@
-//! The limits that a line may come to.
+//! The limits that a line can reach.
 ghost use Rattle.std.specs.Prelude.{◌≡◌};
 ghost use Rattle.world_step.specs.Steps.{limit_of};
 

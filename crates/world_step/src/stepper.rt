@@ -29,7 +29,7 @@ use xt_protocol::Turned;
 #[derive(Drop)]
 pub struct Stepper<C: NodeCore, H: Hull> {
     pub nodes: Nodes<C, H>,
-    /// The files that the metadata server has made, as the trace tells them.
+    /// The files that the metadata server has made, as the trace reports them.
     pub made: Vec<PlacedFile>,
     pub sent: SentMessages,
     /// The messages of the stepping node to itself that it hasn't handled, the first one next.
@@ -77,7 +77,7 @@ fn send<C: NodeCore, H: Hull>(
     Ok(())
 }
 
-/// Where the messages pass a limit, tells it.
+/// Where the messages pass a limit, reports it.
 fn test_limits(sent: &SentMessages) -> Result<(), WorldErr>
     ensures { IsWithin (limit_passed sent.now) result }
 {
@@ -228,7 +228,7 @@ impl<C: NodeCore, H: Hull> Stepper<C, H> {
         Ok(())
     }
 
-    /// Ends a step by the plans for its node. What is told or queued is taken out of `outs` and `marks`.
+    /// Ends a step by the plans for its node. What is reported or queued is taken out of `outs` and `marks`.
     fn end_by_plans(
         &mut self,
         alloc: Global,

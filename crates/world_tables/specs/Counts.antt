@@ -4,7 +4,7 @@ use Rattle.world_tables.specs.Within64.{within_64}
 use Rattle.world_spec.specs.declared.Sent.{Sent}
 use Rattle.world_spec.specs.NodeSteps.{frame_bytes}
 
--- the first pending message stands there, or nothing is pending after the end; the bytes are those of all frames
+-- the first pending message is there, or nothing is pending after the end; the bytes are those of all frames
 pub record AreCounts (sent : List Sent) (first bytes : ℕ) : Type 0 where
   pub inside : first ≤ length sent
   pub settled : (place : ℕ) (d : Sent) → place < first → (slice_index_or sent place d).pending ≡ false

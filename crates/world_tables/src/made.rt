@@ -1,4 +1,4 @@
-//! The files that the metadata server has made, as the trace tells them.
+//! The files that the metadata server has made, as the trace reports them.
 ghost use Rattle.std.specs.Prelude.{◌≡◌, filter, IfOk};
 ghost use Rattle.world_spec.specs.Lines.{is_untold};
 ghost use Rattle.world_tables.specs.Places.{AreNumbers};
@@ -19,8 +19,8 @@ fn numbers_of(alloc: Global, files: &[PlacedFile]) -> Result<BTreeSet<u64>, OutO
     Ok(numbers)
 }
 
-/// Those of these files whose numbers aren't told yet, in their order. It takes time by the lengths of the two lists together, not by
-/// their product, and none where there are no files.
+/// Those of these files whose numbers aren't reported yet, in their order. It takes time by the lengths of the two lists together,
+/// not by their product, and none where there are no files.
 pub fn untold(
     alloc: Global,
     told: &[PlacedFile],

@@ -128,7 +128,7 @@ impl SentMessages {
         }
     }
 
-    /// Makes room for so many more, so that want of memory comes before a step and not in it.
+    /// Makes room for so many more, so that memory can run out only before a step, and not in it.
     pub fn reserve(&mut self, count: usize) -> Result<(), OutOfMemory>
         ensures { self.new ≡ self.old }
     {
@@ -149,7 +149,7 @@ impl SentMessages {
         Ok(())
     }
 
-    /// These have been sent, in order: all of them, or none at want of memory.
+    /// These have been sent, in order: all of them, or none where memory runs out.
     pub fn append(&mut self, messages: Msgs) -> Result<(), OutOfMemory>
         ensures ok { OnOk result (self.new ≡ self.old ++ map pending messages) }
         ensures err { OnErr result (self.new ≡ self.old) }

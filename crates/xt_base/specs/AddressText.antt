@@ -1,4 +1,4 @@
--- texts of at most 64 bytes, and how they lie in an array of 64
+-- texts of at most 64 bytes, and how an array of 64 holds them
 use Rattle.std.specs.Prelude.{ℕ, List, ◌++◌, length, take, replicate, ◌≤◌, ◌-◌, ◌≡◌, IsUtf8}
 use Rattle.xt_base.specs.declared.address.Address.TheInside.{Inside}
 

@@ -10,6 +10,6 @@ abbrev pub fault_count_after : Bool → ℕ → ℕ
 fault_count_after true before = counted (before + 1)
 fault_count_after false before = before
 
--- A count of faults rose. One that stands at its greatest value stays there.
+-- A count of faults rose. One that is at its greatest value stays there.
 abbrev pub Rose : ℕ → ℕ → Type 0
 Rose old new = (old < new) ⊎ (new ≡ 2 ^ 64 - 1)

@@ -1,4 +1,4 @@
--- what may stand in a field: the limits of numbers, bytes and texts
+-- what a field may hold: the limits of numbers, bytes and texts
 use Rattle.std.specs.Prelude.{ℕ, ◌<◌, ◌≤◌, ◌^◌, ◌≡◌, List, length, IsUtf8, slice_index}
 use Rattle.xt_base.specs.declared.TheConstants.{BODY}
 

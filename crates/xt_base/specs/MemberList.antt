@@ -1,14 +1,14 @@
--- lists of one to nine different nodes, and how they lie in an array of nine
+-- lists of one to nine different nodes, and how an array of nine holds them
 use Rattle.std.specs.Prelude.{ℕ, Bool, true, not, ◌&&◌, ◌==◌, nat_le, List, [], ◌∷◌, ◌++◌, length, take, replicate, ◌≤◌, ◌-◌, ◌≡◌}
 use Rattle.std.specs.List.{list_any}
 use Rattle.xt_base.specs.declared.ids.NodeId.{NodeId}
 use Rattle.xt_base.specs.declared.members.Members.TheInside.{Inside}
 
--- whether the node stands in the list
+-- whether the node is in the list
 abbrev pub has_node : List NodeId → ℕ → Bool
 has_node nodes node = list_any (λ member. member.0 == node) nodes
 
--- whether no node stands twice
+-- whether no node is in it twice
 abbrev pub are_distinct : List NodeId → Bool
 are_distinct [] = true
 are_distinct (node ∷ nodes) = not (has_node nodes node.0) && are_distinct nodes

@@ -1,7 +1,7 @@
 //! The values that every part of xtfs speaks of: nodes, files, ballots, leases, epochs, stamps, members, times, bytes, texts and lists.
 //!
 //! Contracts see each of them as plain data: a number as a number, a list as a list, a text as its bytes. What holds a list is
-//! not `Copy` and has `copy`, which gives an equal value or wants memory. The limits of numbers, bytes and texts stand in
+//! not `Copy` and has `copy`, which gives an equal value or runs out of memory. The limits of numbers, bytes and texts are in
 //! `specs/FieldLimits.antt`.
 #![tactic(auto)]
 

@@ -32,14 +32,14 @@ impl Model for Members {
 #[derive(Clone, Copy)]
 pub struct BadMembers;
 
-/// Whether the node stands in the list.
+/// Whether the node is in the list.
 pub fn has_node(nodes: &[NodeId], node: NodeId) -> bool
     ensures { result ≡ has_node nodes.now node.0 }
 {
     nodes.iter().any(|member| member.0 == node.0)
 }
 
-/// Whether no node stands twice.
+/// Whether no node is in it twice.
 fn are_distinct(nodes: &[NodeId]) -> bool
     ensures { result ≡ are_distinct nodes.now }
 {

@@ -48,7 +48,7 @@ fn register_each(alloc: Global, dir: &mut Dir, nodes: u32) -> Result<(), OutOfMe
     Ok(())
 }
 
-/// The bytes of the address that a step tells.
+/// The bytes of the address that a step reports.
 fn told(turned: &Turned) -> u64 {
     match turned.outs.as_slice() {
         [
@@ -64,7 +64,7 @@ fn told(turned: &Turned) -> u64 {
     }
 }
 
-/// Asks for one of so many nodes so many times, each time another, and gives the bytes of the addresses that were told.
+/// Asks for one of so many nodes so many times, each time another, and gives the bytes of the addresses that were reported.
 fn get_each(alloc: Global, dir: &mut Dir, nodes: u32, times: u32) -> Result<u64, OutOfMemory> {
     let number = u64::from(nodes).saturating_add(1);
     let mut bytes = 0u64;
@@ -92,7 +92,8 @@ fn register_and_get(
     get_each(alloc, dir, nodes, times)
 }
 
-/// Registers so many nodes and then asks for one so many times, each time another; gives the bytes of the addresses that were told.
+/// Registers so many nodes and then asks for one so many times, each time another; gives the bytes of the addresses that were
+/// reported.
 pub fn get_times(alloc: Global, nodes: usize, times: u32) -> Result<u64> {
     let nodes = u32::try_from(nodes)?;
     let mut dir = Dir::start(alloc, &KEY, &[])?;

@@ -12,7 +12,7 @@ const ASKER: Asker = Asker { user: 1, group: 1 };
 /// What is done with volumes, so many times.
 #[derive(Clone, Copy)]
 pub enum Errand {
-    /// Tells a file.
+    /// Asks what a file is.
     Stat,
     /// Makes a file and takes it out again.
     Create,

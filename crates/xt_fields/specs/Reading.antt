@@ -50,7 +50,7 @@ abbrev pub Tries : {A : Type 0} → Result A FieldErr → List ℕ → List ℕ 
 Tries (Ok x) bytes left read = read ≡ Ok (x, left)
 Tries (Err e) bytes left read = Fails e read × (left ≡ bytes)
 
--- The same of a call that never wants memory.
+-- The same of a call that never runs out of memory.
 abbrev pub Takes : {A : Type 0} → Result A FieldErr → List ℕ → List ℕ → Result (A × List ℕ) FieldErr → Type 0
 Takes (Ok x) bytes left read = read ≡ Ok (x, left)
 Takes (Err e) bytes left read = (read ≡ Err e) × (left ≡ bytes) × (e ≢ fault.OutOfMemory)

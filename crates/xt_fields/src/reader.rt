@@ -21,7 +21,7 @@ fn text_of(bytes: &[u8]) -> Option<&str>
 }
 
 /// Reads fields from the front of bytes. A field that is refused leaves the reader as it was, and what takes no
-/// allocator never wants memory. Contracts see the bytes that are left.
+/// allocator never runs out of memory. Contracts see the bytes that are left.
 #[derive(Drop)]
 pub struct FieldReader<'a> {
     rest: &'a [u8],

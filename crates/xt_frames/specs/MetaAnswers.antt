@@ -71,7 +71,7 @@ row_kind_arms tag bytes =
 unfoldable pub row_kind_at : Field RowKind
 row_kind_at = tagged row_kind_arms
 
--- 0, a refusal under its number, or what is told under 12 to 14
+-- 0, a refusal under its number, or what is answered under 12 to 14
 abbrev pub meta_answer_bytes : MetaAnswer → List ℕ
 meta_answer_bytes answer.Done = byte_bytes 0
 meta_answer_bytes (answer.Refused refusal) = refusal_bytes refusal

@@ -4,7 +4,7 @@ ghost use Rattle.xt_frames.specs.ReplyFields.{reply_bytes, reply_at};
 ghost use Rattle.xt_frames.specs.MetaAnswers.{meta_answer_bytes, meta_answer_at};
 ghost use Rattle.xt_frames.specs.RegistryAnswers.{registry_answer_bytes, registry_answer_at};
 
-/// What is read of an answer is a value within limits whose spelling stands there, and what is spelled so is read,
+/// What is read of an answer is a value within limits whose spelling is there, and what is spelled so is read,
 /// whatever follows it. So each answer has one spelling, and no spelling begins another.
 pub fn answers_have_one_spelling()
     ensures reply { IsField reply_bytes FitsReply reply_at }

@@ -38,7 +38,7 @@ module _ {D : Type 0} {g : Ghosts D} where
   reading_of (Err (load.Damaged place disk)) = Some (Damaged place)
   reading_of (Err (load.OutOfMemory disk)) = None
 
-  -- the count of faults that a load tells
+  -- the count of faults that a load reports
   abbrev pub load_fault : Result (Journal D g × Vec Placed Global) (LoadErr D) → Option ℕ
   load_fault (Ok loaded) = None
   load_fault (Err (load.DiskFault count disk)) = Some count
@@ -47,14 +47,14 @@ module _ {D : Type 0} {g : Ghosts D} where
   load_fault (Err (load.Damaged place disk)) = None
   load_fault (Err (load.OutOfMemory disk)) = None
 
-  -- the count of faults that an append tells
+  -- the count of faults that an append reports
   abbrev pub append_fault : Result (Journal D g) (AppendErr D g) → Option ℕ
   append_fault (Ok journal) = None
   append_fault (Err (append.Broken count disk)) = Some count
   append_fault (Err (append.Full journal need limit)) = None
   append_fault (Err (append.OutOfMemory journal)) = None
 
-  -- the journal that comes back for want of memory
+  -- the journal that comes back where memory runs out
   abbrev pub without_memory : Result (Journal D g) (AppendErr D g) → Option (Journal D g)
   without_memory (Ok journal) = None
   without_memory (Err (append.Broken count disk)) = None

@@ -14,8 +14,8 @@ IsWithOrWithout payloads payload image = StandsFor image payloads ⊎ StandsFor 
 abbrev pub payloads_after_stop : ℕ → ℕ → List (List ℕ) → List ℕ → List (List ℕ)
 payloads_after_stop call fill payloads payload = if nat_le 3 call && (fill == open_gate) then payloads ++ payload ∷ [] else payloads
 
--- One of the four calls failed, the first that was to fail, and what a crash leaves stands for what that call tells, in the same
--- superblock as before or none.
+-- One of the four calls failed, the first that was to fail, and what a crash leaves stands for the payloads that this call
+-- determines, in the same superblock as before or none.
 pub record IsStopped (super : Option Superblock) (fails : ℕ → ℕ → Bool) (kept : Kept) (payloads : List (List ℕ)) (payload : List ℕ) : Type 0 where
   pub call : ℕ
   pub some : 1 ≤ call

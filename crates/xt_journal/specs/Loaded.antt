@@ -4,11 +4,11 @@ use Rattle.disk_model.specs.Disk.{Kept, IsImage, at_rest}
 use Rattle.journal_records.specs.Calls.{MayBeTorn, IsTornAt}
 use Rattle.xt_journal.specs.Format.{journal_of}
 
--- the disk isn't written anew: it has more than 13 bytes, or is a journal with no record
+-- loading writes nothing to the disk: it has more than 13 bytes, or is a journal with no record
 abbrev pub IsReady : List ℕ → Type 0
 IsReady bytes = (13 < length bytes) ⊎ (bytes ≡ journal_of [])
 
--- it is: it has at most 13 bytes and isn't a journal
+-- loading makes the disk a journal with no record: it has at most 13 bytes and isn't one
 abbrev pub IsUnready : List ℕ → Type 0
 IsUnready bytes = (length bytes ≤ 13) × (bytes ≢ journal_of [])
 

@@ -1,4 +1,4 @@
--- Where a journal stands on its disk.
+-- Where a journal is on its disk.
 use Rattle.std.specs.Prelude.{ℕ, ◌+◌, ◌^◌, ◌<◌, ◌≤◌, Option, Some, None}
 use Rattle.std.proofs.Props.{props}
 use Rattle.journal_areas.specs.declared.superblock.Superblock.{Superblock}

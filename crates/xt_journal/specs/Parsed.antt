@@ -22,7 +22,7 @@ Gives bytes (Err trouble.OutOfMemory) = Unit {0}
 abbrev pub gates_of : List Placed → List ℕ
 gates_of placed = map (λ p. p.gate) placed
 
--- the record of a payload stands in the bytes after its gate
+-- the record of a payload is in the bytes after its gate
 pub record IsAt (bytes : List ℕ) (p : Placed) : Type 0 where
   pub front : List ℕ
   pub later : List ℕ
@@ -30,12 +30,12 @@ pub record IsAt (bytes : List ℕ) (p : Placed) : Type 0 where
   pub place : length front ≡ p.gate
   pub fits : length p.bytes < 4294967296
 
--- the records of these payloads stand in the bytes one after another, the first not below one place, and none past another
+-- the records of these payloads are in the bytes one after another, the first not below one place, and none past another
 abbrev pub AreLaid : List ℕ → ℕ → List Placed → ℕ → Type 0
 AreLaid bytes low [] high = low ≤ high
 AreLaid bytes low (p ∷ placed) high = (low ≤ p.gate) × IsAt bytes p × AreLaid bytes (p.gate + (5 + length p.bytes)) placed high
 
--- these gates are those of payloads whose records stand so in the bytes, from the first byte on
+-- these gates are those of payloads whose records are so in the bytes, from the first byte on
 pub record HasRecords (bytes gates : List ℕ) (placed : List Placed) : Type 0 where
   pub laid : AreLaid bytes 0 placed (length bytes)
   pub places : gates ≡ gates_of placed

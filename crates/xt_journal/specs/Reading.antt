@@ -10,12 +10,12 @@ use Rattle.xt_journal.specs.Format.{sign, StandsIn, IsDamaged}
 abbrev pub payloads_of : List Placed → List (List ℕ)
 payloads_of placed = map (λ p. p.bytes) placed
 
--- each payload with the place of its gate, where the first gate stands at this place
+-- each payload with the place of its gate, where the first gate is at this place
 abbrev pub placed_from : ℕ → List (List ℕ) → List Placed
 placed_from gate [] = []
 placed_from gate (payload ∷ payloads) = record { gate = gate; bytes = payload } ∷ placed_from (gate + (5 + length payload)) payloads
 
--- a superblock's record of 56 bytes, its gate at this place, comes before the payloads whose gates would stand there or after that
+-- a superblock's record of 56 bytes, its gate at this place, comes before the payloads whose gates would be there or after that
 abbrev pub past : ℕ → Placed → Placed
 past place p = record { gate = if nat_lt p.gate place then p.gate else p.gate + 56; bytes = p.bytes }
 
@@ -29,7 +29,7 @@ placed_in None payloads = placed_from 12 payloads
 placed_in (Some s) payloads = placed_by s (current s) payloads
 
 pub data Reading : Type 0 where
-  -- the payloads that stand, each with the place of its gate
+  -- the payloads that count, each with the place of its gate
   Stands : List Placed → Reading
   -- another sign: the first 8 bytes
   Foreign : List ℕ → Reading
@@ -38,7 +38,7 @@ pub data Reading : Type 0 where
   -- the place of the gate
   Damaged : ℕ → Reading
 
--- these payloads stand, in a journal with this superblock or none, and each has its place
+-- these payloads count, in a journal with this superblock or none, and each has its place
 pub record StandsAt (super : Option Superblock) (bytes : List ℕ) (placed : List Placed) : Type 0 where
   pub stands : StandsIn super bytes (payloads_of placed)
   pub places : placed ≡ placed_in super (payloads_of placed)

@@ -14,7 +14,7 @@ module _ {D : Type 0} {g : Ghosts D} where
     pub limit : limit_of new ≡ limit_of old
     pub superblock : superblock_of new ≡ superblock_of old
 
-  -- There is no room exactly where this is needed, and it is told. The journal is as it was then.
+  -- There is no room exactly where this is needed, and the error reports it. The journal is as it was then.
   abbrev pub IsFullBy : Journal D g → Option ℕ → Result (Journal D g) (AppendErr D g) → Type 0
   IsFullBy old needed (Ok journal) = needed ≡ None
   IsFullBy old needed (Err (append.Broken count disk)) = needed ≡ None

@@ -51,7 +51,7 @@ impl<T: Drop> From<AllocFailed<T>> for Trouble {
     }
 }
 
-/// What stands in the bytes of a journal.
+/// What the bytes of a journal hold.
 #[derive(Drop)]
 pub struct Found {
     /// The place of the gate after the last payload's record.
@@ -62,9 +62,9 @@ pub struct Found {
     pub placed: Vec<Placed>,
 }
 
-/// What stands in more than 13 bytes.
+/// What more than 13 bytes hold.
 ///
-/// The memory of the bytes is given back while payloads are taken out of them, so that they never stand there twice.
+/// The memory of the bytes is given back while payloads are taken out of them, so that they are never held twice.
 pub fn parse(alloc: Global, bytes: Vec<u8>) -> Result<Found, Trouble>
     requires { 13 < length bytes.items }
     ensures gives { Gives bytes.items result }
@@ -88,7 +88,7 @@ pub fn parse(alloc: Global, bytes: Vec<u8>) -> Result<Found, Trouble>
     })
 }
 
-/// Takes the payloads of records whose gates stand at these places out of the bytes, from the last on. What lies between the
+/// Takes the payloads of records whose gates are at these places out of the bytes, from the last on. What lies between the
 /// records is cut off on the way.
 fn take_payloads(
     alloc: Global,
@@ -113,7 +113,7 @@ fn take_payloads(
 /// How many bytes may lie idle before they are given back.
 const SLACK: usize = 1 << 20;
 
-/// Cuts off the record whose gate stands at this place, and what comes after it, and gives its payload.
+/// Cuts off the record whose gate is at this place, and what comes after it, and gives its payload.
 fn take_last(bytes: &mut Vec<u8>, gate: u64) -> Result<Octets, OutOfMemory>
     requires { gate + (5 + big_number 4 (drop (gate + 1) bytes.old.items))
         ≤ length bytes.old.items }

@@ -35,7 +35,7 @@ impl<D: Disk> Journal<D> {
     ghost use Rattle.xt_journal.specs.Loaded.{LeavesAsBefore, LeavesDisk, FailedCall, MadeCalls};
     ghost use Rattle.xt_journal.specs.Reading.{IsTheReading, payloads_of};
 
-    /// Loads what stands on a disk: the payloads whose gates are open, from the first up to the first that isn't. From the superblock on
+    /// Loads what is on a disk: the payloads whose gates are open, from the first up to the first that isn't. From the superblock on
     /// it goes on at the area that counts, and what came before that doesn't count.
     ///
     /// A disk of at most 13 bytes that isn't a journal is made one with no record. Nothing else is written. The
@@ -105,8 +105,7 @@ impl<D: Disk> Journal<D> {
     ///
     /// A payload that begins with 8 would be read as the superblock, and may not be given.
     ///
-    /// Want of memory comes before the first device call. A journal whose disk has failed is gone, and must be loaded
-    /// again.
+    /// `OutOfMemory` comes before the first device call. A journal whose disk has failed is gone, and must be loaded again.
     pub fn append(self, alloc: Global, payload: &[u8]) -> Result<Journal<D>, AppendErr<D>>
         requires some { 1 ≤ length payload.now }
         requires fits { length payload.now < 2 ^ 32 }
@@ -135,7 +134,7 @@ impl<D: Disk> Journal<D> {
             (image : List ℕ) → IsImage (D.kept (disk_after_append result)) image →
             IsWithOrWithout payloads payload.now image }
 
-        // It fails exactly where one of its calls does, and which one tells what a crash leaves.
+        // It fails exactly where one of its calls does, and which one that is decides what a crash leaves.
         ensures stopped { IsTrue D.is_told → (payloads : List (List ℕ)) →
             KeepsJournal (D.kept (disk_of self)) payloads →
             IsSome (append_fault result) →

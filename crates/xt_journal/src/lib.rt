@@ -1,8 +1,8 @@
 //! A journal on a disk: payloads that are appended one by one, and each of them kept through a crash from then on.
 //!
-//! A record counts by its gate alone. The gate stands closed on the disk while the record is written after it, and is
+//! A record counts by its gate alone. The gate is closed on the disk while the record is written after it, and is
 //! opened by a write of its own once the record is synced. So a crash at any moment leaves the payloads from before an
-//! append, with the new one or without it; after `Ok` it leaves the new one. Loading gives exactly what stands, or
+//! append, with the new one or without it; after `Ok` it leaves the new one. Loading gives exactly what counts, or
 //! refuses the bytes by name, and then writes nothing.
 #![tactic(auto)]
 

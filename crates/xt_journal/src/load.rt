@@ -14,7 +14,7 @@ use journal_records::write_synced;
 use std::alloc::Global;
 use xt_base::{Failed, OutOfMemory};
 
-/// Syncs a disk, so that a crash leaves what a read gives, and tells its length.
+/// Syncs a disk, so that a crash leaves what a read gives, and returns its length.
 fn settle<D: Disk>(disk: &mut D) -> Result<u64, Failed>
     requires { 64 ≤ D.room disk.old }
     ensures value { IsTrue D.is_told → IfOk result (λ len. len ≡ length (D.kept disk.old).read) }

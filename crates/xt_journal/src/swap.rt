@@ -21,9 +21,9 @@ impl<D: Disk> Journal<D> {
     /// Puts these payloads in place of all others, in a new area. At `Ok` the area is synced and counts: from then on each crash leaves
     /// these payloads alone.
     ///
-    /// The area is written where nothing counts, and the gate of its slot is opened last. `Full` tells how many bytes that would need,
-    /// or the limit where the numbers of areas are spent. Nothing is written then, nor where memory runs out, which comes before the
-    /// first device call. A journal whose disk has failed is gone, and must be loaded again.
+    /// The area is written where nothing counts, and the gate of its slot is opened last. `Full` reports how many bytes that would
+    /// need, or the limit where the numbers of areas are used up. Nothing is written then, nor where memory runs out, which comes
+    /// before the first device call. A journal whose disk has failed is gone, and must be loaded again.
     pub fn swap(self, alloc: Global, payloads: &[Octets]) -> Result<Journal<D>, AppendErr<D>>
         requires given { AreGiven payloads.now }
         ensures done { IsTrue D.is_told → (old : List (List ℕ)) →

@@ -99,8 +99,8 @@ fn walk(alloc: Global, bytes: &[u8]) -> Result<Gates, Trouble>
     }
 }
 
-/// The superblock that a payload of its kind is, whose record's gate stands at this place in so many bytes. `None` where it may not
-/// stand there: beside another one, with another length, or where it isn't sound.
+/// The superblock that a payload of its kind is, whose record's gate is at this place in so many bytes. `None` where none may be
+/// there: beside another one, with another length, or where it isn't sound.
 fn superblock_at(
     known: &Option<Superblock>,
     size: u64,

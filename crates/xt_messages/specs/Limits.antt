@@ -1,4 +1,4 @@
--- what may stand in a message or a record: the limits of the fields
+-- what a message or a record may hold: the limits of the fields
 use Rattle.std.specs.Prelude.{ℕ, ◌<◌, ◌≤◌, ◌^◌, ◌%◌, ◌-◌, ◌≡◌, ◌⊎◌, List, [], ◌∷◌, length, map, IfSome, Bool, true, nat_lt, nat_le, ◌==◌, ◌&&◌, ◌||◌, IsTrue}
 use Rattle.std.specs.List.{AllByRecursion}
 use Rattle.xt_base.specs.FieldLimits.{AreBytes, IsCount, FitsBytes, FitsPath, FitsName, FitsTag}

@@ -32,7 +32,7 @@ pub enum Call {
         group: u32,
         request: MetaReq,
     },
-    /// Tells the MRC the size that the client learnt.
+    /// Reports to the MRC the size that the client learnt.
     Report {
         user: u32,
         group: u32,
@@ -211,7 +211,7 @@ impl Copies for Outcome {
     }
 }
 
-/// What a step tells of itself: a line of the trace without the node.
+/// What a step reports of itself: a line of the trace without the node.
 #[derive(Drop)]
 pub enum Mark {
     /// The MRC made a file.

@@ -1,7 +1,8 @@
-//! What nodes send, tell and keep: locations, capabilities, operations, replies, messages, calls, marks, records and statuses.
+//! What nodes send, report and keep: locations, capabilities, operations, replies, messages, calls, marks, records and
+//! statuses.
 //!
 //! Contracts see each of them as plain data, as they see the values of `xt_base` of which these are made. What holds a list is
-//! not `Copy` and has `copy`, which gives an equal value or wants memory. The limits of the fields stand in
+//! not `Copy` and has `copy`, which gives an equal value or runs out of memory. The limits of the fields are in
 //! `specs/Limits.antt`, the length of a message's frame in `specs/FrameLength.antt`.
 #![tactic(auto)]
 

@@ -128,7 +128,7 @@ pub enum MetaRefusal {
     /// 1 to search, 2 to write, 3 to read, 4 not the owner.
     Forbidden { rule: u8 },
     NameBad,
-    /// So many OSDs are there, fewer than the file wants.
+    /// So many OSDs are there, fewer than the file asks for.
     TooFew { have: u8 },
     Denied { rule: Denial },
 }

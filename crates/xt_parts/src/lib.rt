@@ -1,6 +1,6 @@
 //! Messages travel in parts: `cut` makes the parts of a message, and a `Joiner` joins parts to messages again.
 //!
-//! A part is a header of 27 bytes and up to 32,768 bytes of its message. Parts may come in any order, again and
+//! A part is a header of 27 bytes and up to 32,768 bytes of its message. Parts can arrive in any order, again and
 //! again, mixed with those of other messages, or not at all. A joiner gives a message exactly when every index of
 //! it has been taken, never mixes two messages, and keeps at most 64 that are half joined: of more it drops the
 //! oldest. `specs/Part.antt` has the bytes of a part, and `specs/Joining.antt` what taking one does.

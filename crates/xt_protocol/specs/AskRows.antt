@@ -26,7 +26,7 @@ use Rattle.xt_protocol.specs.Primaries.{is_active}
 use Rattle.xt_protocol.specs.Asks.{is_read, asked_already, waits, serves}
 use Rattle.xt_protocol.specs.FileStates.{FileState, Site, FileStep, nothing, steps_to, and_then, serves_to, members_of, ground_of}
 
--- an ask is told something else than Ok
+-- an ask gets an answer other than Ok
 abbrev pub turned_off : Site → FileState → OpId → Reply → FileStep
 turned_off site s id answer = steps_to s (tells site.node s.kept.file id answer)
 
@@ -50,7 +50,7 @@ is_kind kind.Replicated kind.Replicated = true
 is_kind kind.Striped kind.Striped = true
 is_kind _ _ = false
 
--- whether two lists are one but for their versions
+-- whether two lists are equal but for their versions
 abbrev pub same_list : Location → Location → Bool
 same_list a b = is_kind a.kind b.kind && a.stripe == b.stripe && same_nodes a.members b.members
 

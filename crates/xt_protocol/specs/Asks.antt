@@ -48,11 +48,11 @@ stays asks ask = record asks { waiting = asks.waiting ++ ask ∷ [] }
 
 -- Replies.
 
--- these asks are told this, in order
+-- these asks get this answer, in order
 abbrev pub tells_each : NodeId → FileId → List WaitingAsk → Reply → List Msg
 tells_each node file waiting answer = map (λ w. reply_to node file w.id answer) waiting
 
--- the issued ask is told this, unless it was told before
+-- the issued ask gets this answer, unless it was answered before
 abbrev pub tells_untold : NodeId → FileId → Option IssuedAsk → Reply → List Msg
 tells_untold node file None answer = []
 tells_untold node file (Some issued) answer = if issued.told then [] else reply_to node file issued.ask.id answer ∷ []
@@ -117,7 +117,7 @@ abbrev pub asks_behind : Option Tenure → Asks → Asks
 asks_behind tenure asks = if is_active tenure then asks else comes_back asks
 
 -- What a row of the primary means for the asks: when it has become active, or its update was committed, they are served; when
--- it gathers anew, the issued one comes back.
+-- it gathers again, the issued one comes back.
 abbrev pub asks_follow : Ground → Option Tenure → Asks → Led → Served
 asks_follow g before asks led =
     if is_ready led.primary.tenure && not (is_ready before)

@@ -265,7 +265,7 @@ alone_marks =
     is_held 1 2100 ∷ is_active 1 0 0 0 ∷ is_issued 1 1 10 1 ∷ is_committed 1 1 10 1 ∷ is_answered 1 10 1 1 []
     ∷ is_answered 1 10 2 1 abc ∷ is_answered 1 10 3 1 (99 ∷ []) ∷ is_answered 1 10 4 1 [] ∷ []
 
--- A replica that was behind is brought up to date, and then carries a write with the primary.
+-- A replica that lacked updates is brought up to date, and then carries a write with the primary.
 abbrev pub catching_up : List Deed
 catching_up =
     stops 3 ∷ ticks 1100 ∷ writes_at 10 1 1 0 (97 ∷ []) ∷ settles 100 ∷ starts 3 ∷ ticks 500 ∷ wakes_up 1 ∷ settles 100
@@ -335,14 +335,15 @@ silence =
 abbrev pub silence_marks : List (ℕ × Mark)
 silence_marks = is_held 1 5100 ∷ is_active 1 0 0 0 ∷ is_answered 1 10 1 0 [] ∷ []
 
--- Outrun: node 2 has promised its own round, and refuses node 1's, whose client is told that there is no lease.
+-- Outrun: node 2 has promised its own round, and refuses node 1's, whose client gets the answer that there is no lease.
 abbrev pub outrun : List Deed
 outrun = ticks 1100 ∷ reads_byte 10 1 1 ∷ reads_byte 11 2 1 ∷ delivers 1 ∷ delivers 2 ∷ delivers 3 ∷ delivers 7 ∷ []
 
 abbrev pub outrun_reply : List Msg
 outrun_reply = reply_to (node 1) file_1 (id_of 10 1) (reply.NoLease 0) ∷ []
 
--- A deadline: the lease is held, no other node tells its status, and half a lease length after the ask came its client is told.
+-- A deadline: the lease is held, no other node sends its status, and half a lease length after the ask came its client is
+-- answered.
 abbrev pub deadline : List Deed
 deadline =
     ticks 1100 ∷ reads_byte 10 1 1 ∷ delivers 1 ∷ delivers 2 ∷ delivers 4 ∷ delivers 5 ∷ delivers 6 ∷ ticks 500 ∷ wakes_up 1 ∷ []
@@ -385,7 +386,7 @@ ahead =
 abbrev pub shorter : FileHead
 shorter = record new_head { promised = epoch_of 2 2; stamp = stamp_of 2 2 1; versions = body_of 0 (stamp_of 1 1 1) ∷ [] }
 
--- it takes the shorter head where it holds that body, and else tells which one it misses
+-- it takes the shorter head where it holds that body, and else reports which one it lacks
 abbrev pub taken : Acted
 taken = after_record (kept.Head file_1 shorter) (payload.Ack file_1 (stamp_of 2 2 1))
 

@@ -1,4 +1,4 @@
--- which files are one, and their order
+-- which files are the same, and their order
 use Rattle.std.specs.Prelude.{Bool, ◌&&◌, ◌==◌}
 use Rattle.std.specs.Str.{bytes_eq}
 use Rattle.std.specs.Ordering.{ordering_then, nat_cmp, is_lt}
@@ -6,7 +6,7 @@ use Rattle.std.specs.Cmp.Lexicographic.{slice_cmp}
 use Rattle.std.specs.declared.cmp.Ordering.{Ordering}
 use Rattle.xt_base.specs.declared.ids.FileId.{FileId}
 
--- whether two files are one: of one volume, and with one number
+-- whether two files are the same: of one volume, and with one number
 abbrev pub is_file : FileId → FileId → Bool
 is_file a b = bytes_eq a.volume b.volume && (a.number == b.number)
 

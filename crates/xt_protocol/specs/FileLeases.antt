@@ -72,7 +72,7 @@ abbrev pub writes_to : Site → FileState → Ballot → Lease → List (NodeId 
 writes_to site s ballot lease targets =
     sends (map (λ target. message site.node target.0 (payload.Write s.kept.file ballot target.1 lease)) targets)
 
--- the asks that wait are told this
+-- the asks that wait get this answer
 abbrev pub waiting_told : Site → FileState → Reply → FileStep
 waiting_told site s answer =
     steps_to (record s { asks = record s.asks { waiting = [] } }) (sends (tells_each site.node s.kept.file s.asks.waiting answer))

@@ -100,7 +100,7 @@ abbrev pub stripe_of : Option Location → ℕ
 stripe_of None = 0
 stripe_of (Some location) = location.stripe
 
--- what the file's primary stands on
+-- what the file's primary may look at besides its tenure
 abbrev pub ground_of : Site → FileState → Ground
 ground_of site s =
     record {

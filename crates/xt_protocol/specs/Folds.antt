@@ -92,14 +92,14 @@ abbrev pub is_logged : Record → Bool
 is_logged (kept.Meta from number now nodes request) = true
 is_logged _ = false
 
--- The records of requests among these, in their order. No fold tells of them: wherever folds are compared, the records of
+-- The records of requests among these, in their order. No fold contains them: wherever folds are compared, the records of
 -- requests in their order belong to what is compared.
 unfoldable pub logged_of : List Record → List Record
 logged_of records = filter is_logged records
 
--- ---- which records may come next
+-- ---- which records may follow
 
--- an update may come where its epoch is the promised one, or the one before any primary, its count is the next one, and
+-- an update may follow where its epoch is the promised one, or the one before any primary, its count is the next one, and
 -- the head after it is within its limits
 abbrev pub FollowsHead : FileHead → Update → Type 0
 FollowsHead head update =
@@ -107,8 +107,8 @@ FollowsHead head update =
     × (update.stamp.count ≡ head.stamp.count + 1)
     × FitsHead (head_after head update)
 
--- A promise isn't below the one before, an update follows the head, and each version that a head names is held. Every other
--- record may come at any time.
+-- A promise isn't below the one before, an update follows the head, and each version that a head names is held. Any other
+-- record can come at any time.
 abbrev pub IsInPlace : Folded → Record → Type 0
 IsInPlace folded (kept.Promise file epoch) = is_at_most (row_in folded.files file).head.promised epoch ≡ true
 IsInPlace folded (kept.Update file update) = FollowsHead (row_in folded.files file).head update

@@ -147,7 +147,7 @@ renewal_starts h now members =
     let proposer = record h.proposer { known = h.proposer.known + 1 } in
     record { proposer = proposer; end = h.end; renewal = Some (round_starts h.proposer now members) }
 
--- what an answer to a renewal made: nothing to send or to tell, a Write to these, or a later end
+-- what an answer to a renewal made: nothing to send or to report, a Write to these, or a later end
 pub data Renewal : Type 0 where
   no_news : Renewal
   renewal_write : List (NodeId × Boot) → Renewal

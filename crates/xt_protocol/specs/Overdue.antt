@@ -11,7 +11,7 @@ use Rattle.xt_protocol.specs.Primaries.{idle, majority_among, have_in}
 use Rattle.xt_protocol.specs.Asks.{no_asks, tells_each, tells_untold}
 use Rattle.xt_protocol.specs.FileStates.{FileState, Site, FileStep, nothing, steps_to}
 
--- all asks are told that there is no lease: the issued one unless it was told, then those that wait
+-- all asks get the answer that there is no lease: the issued one unless it was answered, then those that wait
 abbrev pub no_lease_for_all : Site → FileState → FileStep
 no_lease_for_all site s =
     let answer = reply.NoLease s.last_end in
@@ -27,7 +27,7 @@ lease_lapses site s = no_lease_for_all site (record s { primary = idle s.primary
 abbrev pub is_due : ℕ → WaitingAsk → Bool
 is_due now ask = nat_le ask.deadline now
 
--- the issued ask, told where it is due
+-- the issued ask, marked as answered where it is due
 abbrev pub issued_due : ℕ → Option IssuedAsk → Option IssuedAsk
 issued_due now None = None
 issued_due now (Some issued) = Some (record issued { told = if is_due now issued.ask then true else issued.told })
@@ -37,7 +37,7 @@ abbrev pub newly_due : ℕ → Option IssuedAsk → Option IssuedAsk
 newly_due now None = None
 newly_due now (Some issued) = if is_due now issued.ask then Some issued else None
 
--- no majority has answered: the asks that are due are told how many have, those that wait first; the issued write stays
+-- no majority has answered: the asks that are due get the number that has, those that wait first; the issued write stays
 abbrev pub deadlines_come : Site → FileState → Reply → FileStep
 deadlines_come site s answer =
     let due = filter (is_due site.now) s.asks.waiting in

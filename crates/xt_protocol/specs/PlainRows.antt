@@ -75,7 +75,7 @@ read_served body head object at len =
 
 -- ---- writes and truncations
 
--- the update of the next count, where there is one left; no primary's epoch stands in its stamp
+-- the update of the next count, where there is one left; its stamp has no primary's epoch
 abbrev pub next_update : ℕ → (ℕ → Stamp → List ℕ) → FileHead → OpId → ℕ → Op → Option Update
 next_update stripe body head id epoch asked =
     if nat_lt (head.stamp.count + 1) COUNTS

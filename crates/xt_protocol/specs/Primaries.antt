@@ -23,7 +23,8 @@ use Rattle.xt_protocol.specs.declared.states.PrimaryState.{PrimaryState}
 use Rattle.xt_protocol.specs.Turns.{message}
 use Rattle.xt_protocol.specs.Stamps.{is_epoch, has_version, held_from}
 
--- What a primary stands on: where it stands, the head and the held versions of its own replica, and what a body is.
+-- What a primary may look at besides its tenure: where it is, the head and the held versions of its own replica, and what a
+-- body is.
 pub record Ground : Type 0 where
   pub place : Place
   pub own : FileHead
@@ -106,7 +107,7 @@ carries place peers acked = nat_le (majority_among peers) (length acked) && has_
 
 -- Feeding.
 
--- What is known of a peer that has told this head: the versions that it names. What is known of a peer rises, each once.
+-- What is known of a peer that has reported this head: the versions that it names. What is known of a peer rises, each once.
 abbrev pub known_of_report : FileHead → List ObjectVersion
 known_of_report head = held_from head.versions
 

@@ -237,7 +237,7 @@ abbrev pub forgotten : PeerState → PeerState
 forgotten (peer.Reported head) = peer.Reported head
 forgotten _ = peer.Unknown
 
--- Peer behind: it is asked anew.
+-- Peer behind: it is asked again.
 abbrev pub peer_behind : Ground → ℕ → Tenure → NodeId → PeerState → Led
 peer_behind g learnt t from state =
     goes_on learnt (with_state t from (forgotten state))

@@ -12,7 +12,7 @@ abbrev pub ballot_lt : Ballot → Ballot → Bool
 ballot_lt k j =
     nat_lt k.count j.count || k.count == j.count && (nat_lt k.node.0 j.node.0 || k.node.0 == j.node.0 && nat_lt k.boot.0 j.boot.0)
 
--- whether two ballots are one
+-- whether two ballots are equal
 abbrev pub same_ballot : Ballot → Ballot → Bool
 same_ballot k j = k.count == j.count && k.node.0 == j.node.0 && k.boot.0 == j.boot.0
 

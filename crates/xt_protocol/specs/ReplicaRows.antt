@@ -30,7 +30,7 @@ unanswered = record { rec = None; answer = None }
 abbrev pub only : Payload → Acted
 only answer = record { rec = None; answer = Some answer }
 
--- a record and the answer that rests on it
+-- a record and the answer that depends on it
 abbrev pub after_record : Record → Payload → Acted
 after_record rec answer = record { rec = Some rec; answer = Some answer }
 
@@ -49,7 +49,8 @@ as_promised file own epoch row =
     else if is_earlier own.promised epoch then behind file own epoch
     else row
 
--- Gathered: an epoch that isn't earlier than the promised one is promised, and the head told. A new promise is kept first.
+-- Gathered: an epoch that isn't earlier than the promised one is promised, and the head reported. A new promise is kept
+-- first.
 unfoldable pub gathered : FileId → FileHead → Epoch → Acted
 gathered file own epoch =
     if is_earlier epoch own.promised then refused file own epoch
@@ -75,7 +76,7 @@ staged file own held epoch object version bytes =
     as_promised file own epoch
     (record { rec = stage_record file held object version bytes; answer = Some (payload.Staged file epoch object version) })
 
--- head taken, where each version that it names is held; else the least object whose version is missing is told
+-- head taken, where each version that it names is held; else the least object whose version is missing is reported
 abbrev pub head_taken : FileId → Epoch → FileHead → Option ObjectVersion → Acted
 head_taken file epoch head None = after_record (kept.Head file head) (payload.Ack file head.stamp)
 head_taken file epoch head (Some v) = only (payload.Missing file epoch v.object v.version)

@@ -95,7 +95,7 @@ writes g p id epoch asked = writes_under g p.learnt p.tenure id epoch asked
 
 -- Wakes.
 
--- an unknown peer is asked anew
+-- an unknown peer is asked again
 abbrev pub gather_unknown : Place → Epoch → NodeId → PeerState → Option Payload
 gather_unknown place epoch node peer.Unknown = Some (payload.Gather place.file epoch)
 gather_unknown place epoch node _ = None

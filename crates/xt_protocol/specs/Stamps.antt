@@ -5,7 +5,7 @@ use Rattle.xt_base.specs.declared.ids.Epoch.{Epoch}
 use Rattle.xt_base.specs.declared.ids.Stamp.{Stamp}
 use Rattle.xt_messages.specs.declared.file.ObjectVersion.{ObjectVersion}
 
--- whether two epochs are one
+-- whether two epochs are equal
 abbrev pub is_epoch : Epoch → Epoch → Bool
 is_epoch a b = a.number == b.number && a.node.0 == b.node.0
 
@@ -13,7 +13,7 @@ is_epoch a b = a.number == b.number && a.node.0 == b.node.0
 abbrev pub is_earlier : Epoch → Epoch → Bool
 is_earlier a b = nat_lt a.number b.number || a.number == b.number && nat_lt a.node.0 b.node.0
 
--- whether two stamps are one
+-- whether two stamps are equal
 abbrev pub is_stamp : Stamp → Stamp → Bool
 is_stamp a b = (a.epoch.number == b.epoch.number) && (a.epoch.node.0 == b.epoch.node.0) && (a.count == b.count)
 

@@ -52,7 +52,7 @@ to_each from nodes content = map (λ to. message from to content) nodes
 abbrev pub reply_to : NodeId → FileId → OpId → Reply → Msg
 reply_to node file id answer = message node id.client (payload.Reply id.number file answer)
 
--- the client is told something else than Ok
+-- the client gets an answer other than Ok
 abbrev pub tells : NodeId → FileId → OpId → Reply → Turned
 tells node file id answer = sends (reply_to node file id answer ∷ [])
 

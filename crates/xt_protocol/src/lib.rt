@@ -1,8 +1,9 @@
 //! The protocol, as definitions: what an OSD does in one step, row by row (what is overdue, an ask on a replicated or a striped file, the
 //! lease, the replica, the primary and a wake), and what records say.
 //!
-//! The rows stand in `specs/` as functions: the crates above compute them, and the safety theorems speak of them. The types here are the
-//! states that rows change, and what a step gives (`Turned`): its calls put that together as the rows do, and fail for want of memory alone.
+//! The rows are functions in `specs/`: the crates above compute them, and the safety theorems speak of them. The types here are the
+//! states that rows change, and what a step gives (`Turned`): its calls put that together as the rows do, and fail only where memory runs
+//! out.
 #![tactic(auto)]
 
 mod states;

@@ -1,7 +1,7 @@
 use xt_base::{Epoch, FileId, NodeId, Octets, OpId, Seq, Stamp};
 use xt_messages::{FileHead, HeldSet, ObjectVersion, Op, Payload, Record, Reply, Update, Versions};
 
-/// Where a replica stands: its node, its file, and the size of the file's objects in bytes.
+/// Where a replica is: its node, its file, and the size of the file's objects in bytes.
 #[derive(Clone, Copy)]
 pub struct Place {
     pub node: NodeId,
@@ -116,7 +116,7 @@ pub struct WaitingAsk {
     pub deadline: u64,
 }
 
-/// The ask of the issued update, and whether its client was told that no majority has answered.
+/// The ask of the issued update, and whether its client has got the answer that no majority answered.
 #[derive(Drop)]
 pub struct IssuedAsk {
     pub ask: WaitingAsk,

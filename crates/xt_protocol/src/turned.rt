@@ -122,7 +122,7 @@ pub fn reply_to(node: NodeId, file: &FileId, id: OpId, reply: Reply) -> Msg
     message(node, id.client, payload)
 }
 
-/// The client is told something else than Ok.
+/// The client gets an answer other than Ok.
 pub fn tells(
     alloc: Global,
     node: NodeId,

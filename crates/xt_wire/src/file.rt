@@ -70,7 +70,7 @@ pub fn clients_rise(sessions: &[Session]) -> bool
 }
 
 /// Reads locations, capabilities, operations, updates and heads. A field that is refused leaves the reader as it was,
-/// and what takes no allocator never wants memory.
+/// and what takes no allocator never runs out of memory.
 pub trait ReadFiles {
     /// An object.
     fn object(&mut self) -> Result<u64, FieldErr>;

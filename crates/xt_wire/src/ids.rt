@@ -9,7 +9,7 @@ use xt_base::{
 use xt_fields::{FieldErr, FieldReader, FieldWriter};
 
 /// Reads nodes, files, leases and epochs. A field that is refused leaves the reader as it was, and what takes no
-/// allocator never wants memory.
+/// allocator never runs out of memory.
 pub trait ReadIds {
     /// A node.
     fn node(&mut self) -> Result<NodeId, FieldErr>;

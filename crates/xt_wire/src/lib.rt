@@ -2,7 +2,7 @@
 //! operations, updates and heads; and requests.
 //!
 //! Each value within the limits of `xt_messages` has one spelling. What is written is that spelling, what is read is
-//! the value whose spelling stands there, and no second spelling is taken. The traits here give these fields to the
+//! the value whose spelling is there, and no second spelling is taken. The traits here give these fields to the
 //! reader and the writer of basic fields; what each call promises stands at their `impl`s.
 #![tactic(auto)]
 

@@ -331,7 +331,7 @@ fn put_set_row(
     fields.long(expected)
 }
 
-/// A row to be told.
+/// The request for a row.
 fn put_get_row(fields: &mut FieldWriter, node: NodeId) -> Result<(), OutOfMemory>
     ensures { OnOk result (fields.new ≡ fields.old ++ (byte_bytes 2 ++ node_bytes node)) }
 {

@@ -5,7 +5,7 @@ ghost use Rattle.xt_wire.specs.FileFields.{location_bytes, location_at, capabili
 ghost use Rattle.xt_wire.specs.MetaFields.{meta_req_bytes, meta_req_at};
 ghost use Rattle.xt_wire.specs.RegistryFields.{registry_req_bytes, registry_req_at};
 
-/// What is read of a field is a value within limits whose spelling stands there, and what is spelled so is read,
+/// What is read of a field is a value within limits whose spelling is there, and what is spelled so is read,
 /// whatever follows it. So each value has one spelling, and no spelling begins another.
 pub fn each_has_one_spelling()
     ensures node { IsField node_bytes FitsNode node_at }

@@ -2,7 +2,8 @@
 //! the command line ask.
 //!
 //! `main` makes what stands for the standard streams, a socket, a file, the clock of this machine and its processes, and ends with the status
-//! of `xtfs_run::run`, which does all that the program does. Where words are refused, the commands are told on standard error.
+//! of `xtfs_run::run`, which does all that the program does. Where the words of the command line are refused, the commands are listed on
+//! standard error.
 #![tactic(auto)]
 
 use command_words::help_text;
@@ -15,7 +16,7 @@ use xt_base::Words;
 use xt_messages::Status;
 use xtfs_run::run;
 
-/// Tells on standard error what the commands are.
+/// Writes to standard error what the commands are.
 fn help(rt: &HostRuntime) -> io::Result<()> {
     eprint!(rt; "{}", help_text(rt.alloc())?)
 }
@@ -27,7 +28,8 @@ struct CommandLine {
     words: Words,
 }
 
-/// Reads the command line. Where one of its words isn't UTF-8 there are none, which ask for nothing either. An error is want of memory.
+/// Reads the command line. Where one of its words isn't UTF-8 there are none, which ask for nothing either. An error means that memory ran
+/// out.
 fn read_command_line(rt: &HostRuntime) -> io::Result<CommandLine> {
     let alloc = rt.alloc();
     let mut program = String::new(alloc);
@@ -74,7 +76,7 @@ fn main(rt: HostRuntime) -> ExitCode {
         &mut spawner,
     );
     if matches!(&status, Status::Usage) {
-        // The status stands, whether or not anybody can be told more.
+        // The status stands, whether or not the list of commands can be written.
         let _told = help(&rt);
     }
     ExitCode::from(status.code())

@@ -7,9 +7,9 @@ use Rattle.client_loop.specs.Carrying.{Around}
 use Rattle.client_jobs.specs.Running.{Counts}
 use Rattle.cluster_job.specs.Cluster.{Moment}
 
--- How what is around the program stands at a moment, as far as it is told: what its source has left and what its sink holds, what its link
--- is to give and has sent and how many datagrams were lost, what its clock is to read, its disk, the calls of its spawner, and how often the
--- source, the sink, the link, the clock and the spawner have failed.
+-- The state of what is around the program at a moment, as far as it is known: what its source has left and what its sink holds, what its
+-- link is to give and has sent and how many datagrams were lost, what its clock is to read, its disk, the calls of its spawner, and how
+-- often the source, the sink, the link, the clock and the spawner have failed.
 pub record Environment (D : Type 0) : Type 0 where
   pub left : Option (List ℕ)
   pub held : Option (List ℕ)
@@ -26,18 +26,18 @@ pub record Environment (D : Type 0) : Type 0 where
   pub child_faults : ℕ
 
 module _ {D : Type 0} where
-  -- what a node has to do with
+  -- the part of it that a node uses
   abbrev pub outside : Environment D → Outside D
   outside e = record { given = e.given; sent = e.sent; losses = e.losses; readings = e.readings; held = e.held; disk = e.disk }
 
-  -- what a client command has to do with
+  -- the part of it that a client command uses
   abbrev pub around : Environment D → Around
   around e = record { to_come = e.given; sent = e.sent; losses = e.losses; to_read = e.readings }
 
   abbrev pub counts : Environment D → Counts
   counts e = record { link = e.link_faults; clock = e.clock_faults; source = e.source_faults }
 
-  -- what a cluster has to do with
+  -- the part of it that a cluster uses
   abbrev pub moment : Environment D → Moment
   moment e =
       record { around = around e; left = e.left; held = e.held; calls = e.calls; counts = counts e; sink = e.sink_faults; child = e.child_faults }

@@ -39,7 +39,7 @@ module _ {D : Type 0} where
   pub record Audits (before after : Environment D) (said : Status) : Type 0 where
     -- the trace is that of the lines that were taken, and what is put is the verdict on it, or why there is none
     pub audit : IsAudit before.left after.left before.held after.held said
-    -- a fault ends the audit and is told, where its object's count rose; with any other status no count did
+    -- a fault ends the audit and is reported, where its object's count rose; with any other status no count did
     pub cause : HasCause before.source_faults after.source_faults before.sink_faults after.sink_faults said
     -- a trace within the limits is judged, where neither the source nor the sink fails, unless memory runs out
     pub complete : (Rose before.source_faults after.source_faults → ⊥) → (Rose before.sink_faults after.sink_faults → ⊥)

@@ -1,4 +1,4 @@
--- What the world of heads that stands after the run has told.
+-- What the world of heads after the run has reported.
 use Rattle.file_runs.proofs.Runs.{on_one_order}
 use Rattle.file_runs.proofs.runs_are_on_one_order.Goals as goal
 

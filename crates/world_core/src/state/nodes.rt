@@ -28,7 +28,7 @@ use xt_messages::{Limited, Record};
 
 impl<C: NodeCore, H: Hull> State<C, H> {
     /// A node starts from what its records say, with the start after its last one, and keeps that first. The files that a metadata server
-    /// has made and that no entry tells yet are told then; there is room for all entries before the start is kept.
+    /// has made and that no entry reports yet are reported then; there is room for all entries before the start is kept.
     pub fn start(&mut self, node: NodeId, clock: u64) -> Result<(), WorldErr>
         requires clock { clock < 2 ^ 62 }
         requires kept { (found : Node) → node_in self.old.doing.world.nodes node.0 ≡ Some found →
@@ -139,8 +139,8 @@ impl<C: NodeCore, H: Hull> State<C, H> {
     }
 }
 
-/// The files that the metadata server at a place has made and that no entry tells yet, in the order of making. `made` are those that
-/// the trace tells.
+/// The files that the metadata server at a place has made and that no entry reports yet, in the order of making. `made` are those that
+/// the trace reports.
 fn files_left<C: NodeCore, H: Hull>(
     alloc: Global,
     nodes: &Nodes<C, H>,
@@ -155,7 +155,7 @@ fn files_left<C: NodeCore, H: Hull>(
     untold(alloc, made, files.as_slice())
 }
 
-/// The lines of the trace for a start: the node is up, and these files are told.
+/// The lines of the trace for a start: the node is up, and these files are reported.
 fn entries_of_start(
     alloc: Global,
     up: Entry,

@@ -1,4 +1,4 @@
--- every run keeps what it told
+-- every run keeps what it reported
 use Rattle.world_runs.proofs.EndRuns.{runs_answered, parts_answered}
 use Rattle.world_runs.proofs.ends_are_answered.Goals as goal
 

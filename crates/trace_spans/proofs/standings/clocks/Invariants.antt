@@ -4,7 +4,7 @@ use Rattle.trace_spans.specs.Listed.{IsListOf}
 use Rattle.trace_spans.specs.Holding.{kept, clock_at}
 use Rattle.trace_spans.proofs.standings.clocks.Given as goal
 
--- the node stands so, and the clocks so far are told
+-- the node stands so, and the clocks so far are given
 abbrev pub invariant-loop-entry : goal.invariant-loop-entry
 invariant-loop-entry l =
     (l.now ≡ kept (standing l.node 0 (take l.entry-index l.entries)))
