@@ -1,3 +1,4 @@
 pub mod StoredRecords
 mod Stopping
 mod Rooms
+mod Rewriting

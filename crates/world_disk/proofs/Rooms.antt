@@ -12,8 +12,8 @@ use Rattle.replica_records.specs.RecordText.{record_text}
 use Rattle.replica_records.proofs.PayloadLength.{text_bound}
 use Rattle.xt_journal.specs.Access.{place_of, limit_of, superblock_of}
 use Rattle.journal_areas.specs.declared.superblock.Superblock.{Superblock}
-use Rattle.xt_journal.specs.Format.{end_in, end_of, KeepsIn}
-use Rattle.xt_journal.proofs.Push.{end_of-push}
+use Rattle.xt_journal.specs.Format.{end_in, KeepsIn}
+use Rattle.xt_journal.proofs.Push.{end_in-push}
 use Rattle.xt_journal.proofs.Steps.{keeps_in, place_of_end}
 use Rattle.object_store.specs.declared.store.Store.{Store}
 use Rattle.object_store.specs.Access.{journal_of, disk_of, records_of}
@@ -22,7 +22,7 @@ use Rattle.world_spec.specs.NodeSteps.{Overflow}
 use Rattle.world_hull.specs.Answers.{IsFullExactly}
 use Rattle.world_hull.specs.declared.errors.WorldErr.{WorldErr}
 use Rattle.world_hull.specs.declared.errors.WorldErr.TheVariants as error
-use Rattle.world_disk.specs.Room.{journal_need, journal_overflow}
+use Rattle.world_disk.specs.Room.{journal_need, journal_overflow, place_in}
 use Rattle.world_disk.specs.declared.TheConstants.{JOURNAL}
 
 within : (n limit : ℕ) (over : Overflow) → n ≤ limit → (if nat_lt limit n then Some over else None) ≡ None
@@ -34,51 +34,57 @@ past n limit over lt = grind (arith, nat_tests)
 uncounted : (n len : ℕ) → n ≤ JOURNAL → len ≤ 262144 → counted (n + (6 + len)) ≡ n + (6 + len)
 uncounted n len short few = omega arith
 
--- what the disk of a store keeps whose journal has no superblock
-pub keeps_plain : {D : Type 0} {g : Ghosts D} (store : Store D g) → IsTrue g.is_told → superblock_of (journal_of store) ≡ None
-    → KeepsIn None (g.kept (disk_of store)) (texts_of (records_of store))
-keeps_plain {g = g} store told plain =
-    subst (λ (super : Option Superblock). KeepsIn super (g.kept (disk_of store)) (texts_of (records_of store))) plain
-    (keeps_in (superblock_of (journal_of store)) (g.kept (disk_of store)) (place_of (journal_of store)) (texts_of (records_of store)) (store.journal.ends told) (store.keeps told))
+-- what the disk of a store keeps
+pub keeps_here : {D : Type 0} {g : Ghosts D} (store : Store D g) → IsTrue g.is_told
+    → KeepsIn (superblock_of (journal_of store)) (g.kept (disk_of store)) (texts_of (records_of store))
+keeps_here {g = g} store told =
+    keeps_in (superblock_of (journal_of store)) (g.kept (disk_of store)) (place_of (journal_of store)) (texts_of (records_of store)) (store.journal.ends told) (store.keeps told)
+
+-- where its journal ends
+pub place_here : {D : Type 0} {g : Ghosts D} (store : Store D g) → IsTrue g.is_told
+    → place_of (journal_of store) ≡ place_in (superblock_of (journal_of store)) (records_of store)
+place_here {g = g} store told =
+    place_of_end (superblock_of (journal_of store)) (g.kept (disk_of store)) (place_of (journal_of store)) (texts_of (records_of store)) (store.journal.ends told) (store.keeps told)
 
 -- what a put into a store tells of its room
-module _ {D : Type 0} {g : Ghosts D} (store : Store D g) (told : IsTrue g.is_told) (rec : Record) (limited : limit_of (journal_of store) ≡ JOURNAL)
-    (plain : superblock_of (journal_of store) ≡ None) where
+module _ {D : Type 0} {g : Ghosts D} (store : Store D g) (told : IsTrue g.is_told) (rec : Record) (limited : limit_of (journal_of store) ≡ JOURNAL) where
   abbrev records : List Record
   records = records_of store
+
+  abbrev super : Option Superblock
+  super = superblock_of (journal_of store)
 
   abbrev place : ℕ
   place = place_of (journal_of store)
 
-  ends : place ≡ end_of (texts_of records)
-  ends =
-      place_of_end (superblock_of (journal_of store)) (g.kept (disk_of store)) place (texts_of records) (store.journal.ends told) (store.keeps told)
-      ∙ ap (λ (super : Option Superblock). end_in super (texts_of records)) plain
+  ends : place ≡ place_in super records
+  ends = place_here store told
 
-  needed : journal_need records rec ≡ place + (6 + length (record_text rec))
+  needed : journal_need super records rec ≡ place + (6 + length (record_text rec))
   unfolding journal_need
   needed = ap (λ (n : ℕ). n + (6 + length (record_text rec))) (sym ends)
 
   -- the record was put, or would have been but for a stop
-  pub has_room : place_of (journal_of store) + (6 + length (record_text rec)) ≤ limit_of (journal_of store) → journal_overflow (records_of store) rec ≡ None
-  has_room le = within (journal_need records rec) JOURNAL _ (omega (arith, le, needed, limited))
+  pub has_room : place_of (journal_of store) + (6 + length (record_text rec)) ≤ limit_of (journal_of store)
+      → journal_overflow (superblock_of (journal_of store)) (records_of store) rec ≡ None
+  has_room le = within (journal_need super records rec) JOURNAL _ (omega (arith, le, needed, limited))
 
   pub short_with : place_of (journal_of store) + (6 + length (record_text rec)) ≤ limit_of (journal_of store)
-      → end_of (texts_of (records_of store ++ rec ∷ [])) ≤ JOURNAL
+      → place_in (superblock_of (journal_of store)) (records_of store ++ rec ∷ []) ≤ JOURNAL
   short_with le =
       let texts : texts_of (records ++ rec ∷ []) ≡ texts_of records ++ record_text rec ∷ [] = map-append record_text records (rec ∷ []) in
-      omega (arith, le, ends, limited, ap end_of texts, end_of-push (texts_of records) (record_text rec))
+      omega (arith, le, ends, limited, ap (end_in super) texts, end_in-push super (texts_of records) (record_text rec))
 
-  pub has_none : (need limit : ℕ) → FitsRecord rec → end_of (texts_of (records_of store)) ≤ JOURNAL
+  pub has_none : (need limit : ℕ) → FitsRecord rec → place_in (superblock_of (journal_of store)) (records_of store) ≤ JOURNAL
       → limit_of (journal_of store) < place_of (journal_of store) + (6 + length (record_text rec))
       → need ≡ counted (place_of (journal_of store) + (6 + length (record_text rec))) → limit ≡ limit_of (journal_of store)
-      → journal_overflow (records_of store) rec ≡ Some (record { need = need; limit = limit })
+      → journal_overflow (superblock_of (journal_of store)) (records_of store) rec ≡ Some (record { need = need; limit = limit })
   has_none need limit fits short more is_need is_limit =
       let whole : counted (place + (6 + length (record_text rec))) ≡ place + (6 + length (record_text rec))
       = uncounted place (length (record_text rec)) (omega (arith, ends, short)) (text_bound rec fits).1 in
-      let n : journal_need records rec ≡ need = needed ∙ sym whole ∙ sym is_need in
+      let n : journal_need super records rec ≡ need = needed ∙ sym whole ∙ sym is_need in
       let l : JOURNAL ≡ limit = sym limited ∙ sym is_limit in
-      past (journal_need records rec) JOURNAL _ (omega (arith, more, needed, limited)) ∙ cc (n, l)
+      past (journal_need super records rec) JOURNAL _ (omega (arith, more, needed, limited)) ∙ cc (n, l)
 
 -- an error that a call gave is passed on
 pub passed_on : (A B : Type 0) (overflow : Option Overflow) (e : WorldErr) (result : Result B WorldErr)

@@ -7,29 +7,31 @@ ghost use Rattle.xt_messages.specs.Limits.{FitsRecord};
 ghost use Rattle.xt_messages.specs.declared.record.Record.{Record};
 ghost use Rattle.xt_protocol.specs.Folds.{fold_of, IsInPlace, body_kept};
 ghost use Rattle.xt_journal.specs.Access as journal;
-ghost use Rattle.xt_journal.specs.Format.{StandsIn, KeepsJournal, end_of};
+ghost use Rattle.xt_journal.specs.Format.{StandsIn, KeepsJournal};
 ghost use Rattle.xt_journal.specs.Loaded.{FailedCall, MadeCalls, IsReady};
 ghost use Rattle.xt_journal.specs.Reading.{payloads_of};
 ghost use Rattle.object_store.specs.Access.{records_of, disk_of, journal_of};
 ghost use Rattle.object_store.specs.Texts.{texts_of};
 ghost use Rattle.world_hull.specs.Answers.{IsFullOrMemory, IsFullExactly, GivesBody};
 ghost use Rattle.world_hull.specs.Appends.{kept_by};
+ghost use Rattle.world_hull.specs.Rewritings.{MayBecome};
 ghost use Rattle.world_disk.specs.Disks.{AreOn, HasRecords, IsToStop};
 ghost use Rattle.world_disk.specs.Ends.{own_after, IsLoadedWith, IsStartedFrom, IsReadAgain, IsLeftBy, IsReadAfter};
-ghost use Rattle.world_disk.specs.Room.{journal_overflow};
-ghost use Rattle.world_disk.specs.Stored.{none_stored};
+ghost use Rattle.world_disk.specs.Room.{journal_overflow, place_in};
+ghost use Rattle.world_disk.specs.Stored.{IsRewritten, none_stored};
 
 use crate::JOURNAL;
 use disk_model::{MemoryDisk, Stop};
 use object_store::{AppendErr, Store, StoreErr};
 use std::alloc::{AllocError, Global};
 use std::marker::Model;
+use store_compact::compact;
 use world_hull::{BodyErr, WorldErr};
 use xt_base::{CallList, Copies, FileId, Octets, OutOfMemory, Stamp};
 use xt_journal::{Journal, LoadErr, Placed};
-use xt_messages::Record;
+use xt_messages::{Keep, Record};
 
-/// The records of a node on a disk that doesn't fail. Contracts see their list, and the disk.
+/// The records of a node on a disk that doesn't fail. Contracts see their list, the superblock of their journal, and the disk.
 pub struct NodeStore {
     store: Store<MemoryDisk>,
 }
@@ -49,7 +51,11 @@ impl Model for NodeStore {
 
     ghost Value = { Stored };
 
-    ghost view = { λ node. record { records = records_of node.store; disk = disk_of node.store } };
+    ghost view = { λ node. record {
+      records = records_of node.store;
+      superblock = superblock_of (journal_of node.store);
+      disk = disk_of node.store;
+    } };
 
     ghost invariant = { λ node.
         IsCalm (disk_of node.store) (records_of node.store) (limit_of (journal_of node.store))
@@ -65,8 +71,8 @@ fn journal_on(
     requires stands { HasRecords (memory_kept disk).read }
     requires passes { FailedCall (planned disk.plan) (memory_kept disk).read → ⊥ }
     ensures reads { IfOk result (λ found.
-        StandsIn None (memory_kept disk).read (payloads_of found.1.items)) }
-    ensures plain { IfOk result (λ found. journal.superblock_of found.0 ≡ None) }
+        StandsIn (journal.superblock_of found.0) (memory_kept disk).read
+        (payloads_of found.1.items)) }
     ensures keeps { IfOk result (λ found.
         KeepsJournal (memory_kept (journal.disk_of found.0)) (payloads_of found.1.items)) }
     ensures ready { IfOk result (λ found. IsReady (memory_kept (journal.disk_of found.0)).read) }
@@ -92,12 +98,14 @@ fn store_on(alloc: Global, disk: MemoryDisk) -> Result<Store<MemoryDisk>, OutOfM
     requires stands { HasRecords (memory_kept disk).read }
     requires passes { FailedCall (planned disk.plan) (memory_kept disk).read → ⊥ }
     ensures reads { IfOk result (λ store. ∥ AreOn (memory_kept disk).read (records_of store) ∥₁) }
+    ensures superblock { IfOk result (λ store.
+        StandsIn (journal.superblock_of (journal_of store)) (memory_kept disk).read
+        (texts_of (records_of store))) }
     ensures ready { IfOk result (λ store. IsReady (memory_kept (disk_of store)).read) }
     ensures loaded { IfOk result (λ store. IsLoadedWith disk.first (disk_of store)) }
     ensures plan { IfOk result (λ store.
         MadeCalls (planned disk.plan) (planned (disk_of store).plan) (memory_kept disk).read) }
     ensures limit { IfOk result (λ store. journal.limit_of (journal_of store) ≡ JOURNAL) }
-    ensures plain { IfOk result (λ store. journal.superblock_of (journal_of store) ≡ None) }
 {
     let (journal, payloads) = journal_on(alloc, disk)?;
     match Store::load(alloc, journal, payloads.as_slice()) {
@@ -110,7 +118,9 @@ fn store_on(alloc: Global, disk: MemoryDisk) -> Result<Store<MemoryDisk>, OutOfM
 /// The records that stand in these bytes, on a new disk that never fails.
 fn restarted(alloc: Global, bytes: Octets) -> Result<NodeStore, OutOfMemory>
     requires { HasRecords bytes }
-    ensures { IfOk result (λ node. IsStartedFrom bytes node.disk node.records) }
+    ensures started { IfOk result (λ node. IsStartedFrom bytes node.disk node.records) }
+    ensures superblock { IfOk result (λ node.
+        StandsIn node.superblock bytes (texts_of node.records)) }
 {
     let disk = MemoryDisk::new(alloc, bytes, CallList::new(alloc), None);
     Ok(NodeStore {
@@ -131,13 +141,17 @@ fn left_by_stop(
     requires low { 1 ≤ stop.call }
     requires high { stop.call ≤ 4 }
     requires stops { IsToStop stop.call (planned (disk_of store).plan) }
-    requires short { end_of (texts_of (records_of store)) ≤ JOURNAL }
+    requires short { place_in (journal.superblock_of (journal_of store)) (records_of store)
+        ≤ JOURNAL }
     requires limit { journal.limit_of (journal_of store) ≡ JOURNAL }
-    requires plain { journal.superblock_of (journal_of store) ≡ None }
     ensures left { IfOk result (λ bytes. IsLeftBy stop (records_of store) rec.now bytes) }
     ensures stands { IfOk result (λ bytes.
         ∥ AreOn bytes (own_after (records_of store) rec.now (kept_by (Some stop))) ∥₁) }
-    ensures room { IsFullExactly (journal_overflow (records_of store) rec.now) result }
+    ensures superblock { IfOk result (λ bytes.
+        StandsIn (journal.superblock_of (journal_of store)) bytes
+        (texts_of (own_after (records_of store) rec.now (kept_by (Some stop))))) }
+    ensures room { IsFullExactly (journal_overflow (journal.superblock_of (journal_of store))
+        (records_of store) rec.now) result }
     ensures error { IfErr result IsFullOrMemory }
 {
     match store.put(alloc, rec) {
@@ -152,6 +166,7 @@ impl NodeStore {
     /// No record, on a new disk: as after a start from a disk without a byte.
     pub fn new(alloc: Global) -> Result<NodeStore, OutOfMemory>
         ensures none { IfOk result (λ node. node.records ≡ []) }
+        ensures superblock { IfOk result (λ node. node.superblock ≡ None) }
         ensures read { IfOk result (λ node. IsReadAgain none_stored.disk node.disk []) }
     {
         restarted(alloc, Octets::new(alloc))
@@ -161,6 +176,8 @@ impl NodeStore {
     pub fn bytes(&self) -> Result<Octets, OutOfMemory>
         ensures left { IfOk result (IsImage (memory_kept self.now.disk)) }
         ensures same { IfOk result (λ bytes. ∥ AreOn bytes self.now.records ∥₁) }
+        ensures superblock { IfOk result (λ bytes.
+            StandsIn self.now.superblock bytes (texts_of self.now.records)) }
         ensures ready { IfOk result IsReady }
     {
         self.store.disk().image()
@@ -169,6 +186,7 @@ impl NodeStore {
     /// What the node has that starts again: the same records, read from what a crash leaves of its disk.
     pub fn reloaded(&self, alloc: Global) -> Result<NodeStore, OutOfMemory>
         ensures same { IfOk result (λ node. node.records ≡ self.now.records) }
+        ensures superblock { IfOk result (λ node. node.superblock ≡ self.now.superblock) }
         ensures read { IfOk result (λ node. IsReadAgain self.now.disk node.disk node.records) }
     {
         restarted(alloc, self.bytes()?)
@@ -179,7 +197,9 @@ impl NodeStore {
         requires fits { FitsRecord rec.now }
         requires place { IsInPlace (fold_of self.records) rec.now }
         ensures done { IfOk result (λ node. node.records ≡ self.records ++ rec.now ∷ []) }
-        ensures room { IsFullExactly (journal_overflow self.records rec.now) result }
+        ensures superblock { IfOk result (λ node. node.superblock ≡ self.superblock) }
+        ensures room { IsFullExactly (journal_overflow self.superblock self.records rec.now)
+            result }
         ensures error { IfErr result IsFullOrMemory }
     {
         let NodeStore { store } = self;
@@ -187,6 +207,21 @@ impl NodeStore {
             Ok(store) => Ok(NodeStore { store }),
             Err(AppendErr::Full { need, limit, .. }) => Err(WorldErr::Full { need, limit }),
             Err(AppendErr::OutOfMemory { .. }) => Err(WorldErr::OutOfMemory),
+            Err(AppendErr::Broken { .. }) => unreachable!(),
+        }
+    }
+
+    /// Rewrites the records with these bodies, where the journal has room for a new area of them, and tells whether it had. Where
+    /// it hadn't, nothing has changed. A crash at any moment of it leaves the old records or the rewritten ones.
+    pub fn compact(self, alloc: Global, keep: &Keep) -> Result<(NodeStore, bool), OutOfMemory>
+        requires { MayBecome keep.now self.records }
+        ensures { IfOk result (λ ended. IsRewritten self keep.now ended.1 ended.0) }
+    {
+        let NodeStore { store } = self;
+        match compact(alloc, store, keep) {
+            Ok(store) => Ok((NodeStore { store }, true)),
+            Err(AppendErr::Full { store, .. }) => Ok((NodeStore { store }, false)),
+            Err(AppendErr::OutOfMemory { .. }) => Err(AllocError),
             Err(AppendErr::Broken { .. }) => unreachable!(),
         }
     }
@@ -199,8 +234,10 @@ impl NodeStore {
         requires high { stop.call ≤ 4 }
         ensures own { IfOk result (λ node. node.records ≡
             own_after self.now.records rec.now (kept_by (Some stop))) }
+        ensures superblock { IfOk result (λ node. node.superblock ≡ self.now.superblock) }
         ensures left { IfOk result (λ node. IsReadAfter stop self.now.records rec.now node.disk) }
-        ensures room { IsFullExactly (journal_overflow self.now.records rec.now) result }
+        ensures room { IsFullExactly
+            (journal_overflow self.now.superblock self.now.records rec.now) result }
         ensures error { IfErr result IsFullOrMemory }
     {
         // Loading a journal that stands makes one sync before the append's calls.

@@ -11,10 +11,14 @@ use Rattle.xt_base.specs.declared.ids.NodeId.{NodeId}
 use Rattle.xt_messages.specs.declared.record.Record.{Record}
 use Rattle.world_hull.specs.declared.hull.Kept.{Kept}
 use Rattle.world_hull.specs.declared.hull.Kept.TheVariants.{Done, StoppedKept, StoppedLost}
-use Rattle.world_spec.specs.World.{Deed, loads}
+use Rattle.xt_messages.specs.declared.record.KeepBody.{KeepBody}
+use Rattle.xt_protocol.specs.Forgetting.{rewritten}
+use Rattle.world_spec.specs.World.{Deed, loads, rewrites}
 use Rattle.world_hull.specs.Appends.{kept_by, records_after, past_after, with_deed, IsAppended}
+use Rattle.world_hull.specs.Rewritings.{IsCompacted, logs_after}
 use Rattle.world_disk.specs.Ends.{own_after}
-use Rattle.world_disk_hull.specs.Views.{StoredView, none_stored, own_past_after}
+use Rattle.world_disk.specs.Room.{journal_room, laid_by, rewrites_at}
+use Rattle.world_disk_hull.specs.Views.{OwnRewritten, StoredView, none_stored, own_past_after}
 
 chosen : (b : Bool) (store : StoredView) (before : Option StoredView)
     → unwrap_or (cond b (Some store) before) none_stored ≡ (if b then store else unwrap_or before none_stored)
@@ -169,3 +173,38 @@ first_records old new node store put none one = fun_ext (λ n. ap (λ (nodes : �
     at n true is =
         one ∙ ap (λ (s : StoredView). s.records) (sym none) ∙ ap (λ (k : ℕ). (old k).records) (sym (eqb-true n node.0 is))
     at n false differ = refl
+
+-- a node's records after they were rewritten, or weren't
+pub is_compacted : (old mid new : ℕ → StoredView) (node : NodeId) (keep : List KeepBody) (rewrote : Bool) (own store : StoredView)
+    → own.records ≡ (old node.0).records → own.past ≡ (old node.0).past
+    → rewrote ≡ rewrites_at (laid_by own.past) keep → OwnRewritten own keep rewrote store
+    → ((n : ℕ) → (n == node.0) ≡ false → mid n ≡ old n)
+    → new ≡ (λ n. if n == node.0 then store else mid n)
+    → IsCompacted journal_room (logs old, pasts old) (logs new, pasts new) node keep rewrote
+is_compacted old mid new node keep rewrote own store same done due made others put = record {
+  due = due ∙ ap (λ (past : List Deed). rewrites_at (laid_by past) keep) done;
+  kept = fun_ext (λ n. ap (λ (nodes : ℕ → StoredView). (nodes n).records) put ∙ own_records n (n == node.0) refl rewrote made);
+  past = fun_ext (λ n. ap (λ (nodes : ℕ → StoredView). (nodes n).past) put ∙ own_past n (n == node.0) refl rewrote made);
+}
+  where
+    own_records : (n : ℕ) (b : Bool) → (n == node.0) ≡ b → (r : Bool) → OwnRewritten own keep r store
+        → (if b then store else mid n).records ≡ (logs_after (logs old, pasts old) node keep r).0 n
+    own_records n true is true made =
+        made.0 ∙ ap (rewritten keep) same ∙ ap (λ (k : ℕ). rewritten keep (old k).records) (sym (eqb-true n node.0 is))
+        ∙ ap (λ (b : Bool). if b then rewritten keep (old n).records else (old n).records) (sym is)
+    own_records n true is false made =
+        ap (λ (s : StoredView). s.records) made ∙ same ∙ ap (λ (k : ℕ). (old k).records) (sym (eqb-true n node.0 is))
+    own_records n false differ true made =
+        ap (λ (s : StoredView). s.records) (others n differ) ∙ ap (λ (b : Bool). if b then rewritten keep (old n).records else (old n).records) (sym differ)
+    own_records n false differ false made = ap (λ (s : StoredView). s.records) (others n differ)
+
+    own_past : (n : ℕ) (b : Bool) → (n == node.0) ≡ b → (r : Bool) → OwnRewritten own keep r store
+        → (if b then store else mid n).past ≡ (logs_after (logs old, pasts old) node keep r).1 n
+    own_past n true is true made =
+        made.1 ∙ ap (λ (past : List Deed). past ++ rewrites keep ∷ []) done ∙ ap (λ (k : ℕ). (old k).past ++ rewrites keep ∷ []) (sym (eqb-true n node.0 is))
+        ∙ ap (λ (b : Bool). if b then (old n).past ++ rewrites keep ∷ [] else (old n).past) (sym is)
+    own_past n true is false made =
+        ap (λ (s : StoredView). s.past) made ∙ done ∙ ap (λ (k : ℕ). (old k).past) (sym (eqb-true n node.0 is))
+    own_past n false differ true made =
+        ap (λ (s : StoredView). s.past) (others n differ) ∙ ap (λ (b : Bool). if b then (old n).past ++ rewrites keep ∷ [] else (old n).past) (sym differ)
+    own_past n false differ false made = ap (λ (s : StoredView). s.past) (others n differ)

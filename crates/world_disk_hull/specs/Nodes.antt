@@ -1,13 +1,11 @@
 -- the nodes, where each that has kept or loaded a record has a store of its own
-use Rattle.std.specs.Prelude.{ℕ, ◌≡◌, ◌==◌, false, List, [], ◌∷◌, ◌++◌, unwrap_or}
+use Rattle.std.specs.Prelude.{ℕ, ◌≡◌, ◌==◌, false, List, unwrap_or}
 use Rattle.std.specs.Ordering.{nat_cmp}
 use Rattle.std.specs.BTreeMap.{get}
 use Rattle.disk_model.specs.Changes.{Memory}
 use Rattle.xt_base.specs.declared.ids.NodeId.{NodeId}
 use Rattle.xt_messages.specs.declared.record.Record.{Record}
-use Rattle.world_spec.specs.World.{Deed, puts}
-use Rattle.world_hull.specs.declared.hull.Kept.{Kept}
-use Rattle.world_hull.specs.declared.hull.Kept.TheVariants.{Done, StoppedKept, StoppedLost}
+use Rattle.world_spec.specs.World.{Deed}
 use Rattle.world_disk_hull.specs.Views.{StoredView, none_stored}
 use Rattle.world_disk_hull.specs.declared.disk_hull.DiskHull.{DiskHull}
 

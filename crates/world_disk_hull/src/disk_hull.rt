@@ -8,9 +8,10 @@ ghost use Rattle.xt_protocol.specs.Folds.{IsInPlace, fold_of};
 ghost use Rattle.world_hull.specs.Answers.{IsFullOrMemory, IsFullExactly};
 ghost use Rattle.world_hull.specs.Appends.{IsInAppend, IsAppended, AreAllSame, AreOthersSame, kept_by, with_deed};
 ghost use Rattle.world_hull.specs.Revivals.{IsRevived};
+ghost use Rattle.world_hull.specs.Rewritings.{IsCompacted, IsNeverNow, MayBecome};
 ghost use Rattle.world_disk.specs.Disks.{AreOn};
 ghost use Rattle.world_disk.specs.Ends.{IsReadAgain, own_after};
-ghost use Rattle.world_disk.specs.Room.{journal_room};
+ghost use Rattle.world_disk.specs.Room.{is_due, journal_room, laid_by};
 ghost use Rattle.world_disk_steps.specs.Steps.{IsDiskAfter};
 ghost use Rattle.world_disk_hull.specs.Nodes.{AreOtherNodesSame, disk_of, node_of, past_of, records_of};
 ghost use Rattle.world_disk_hull.specs.Views.{none_stored, own_past_after};
@@ -182,12 +183,34 @@ impl Hull for DiskHull {
         }
     }
 
-    fn may_compact(&self, _node: NodeId) -> bool {
-        false
+    /// Whether it is time to rewrite the node's records: where the number of those that were put since they were loaded last is
+    /// a multiple of the period.
+    fn may_compact(&self, node: NodeId) -> bool
+        ensures never { result ≡ false → IsNeverNow journal_room (past_of self.now node.0) }
+        ensures due { result ≡ is_due (laid_by (past_of self.now node.0)) }
+    {
+        match self.nodes.get(&node.0) {
+            Some(own) => own.is_due(),
+            None => true,
+        }
     }
 
-    fn compact(&mut self, _alloc: Global, _node: NodeId, _keep: &Keep) -> Result<bool, WorldErr> {
-        Ok(false)
+    /// As of every hull; and the records are rewritten on the node's disk, in a new area of its journal, where that has room for
+    /// it. The other nodes' disks are as before.
+    fn compact(&mut self, alloc: Global, node: NodeId, keep: &Keep) -> Result<bool, WorldErr>
+        requires { MayBecome keep.now (records_of self.old node.0) }
+        ensures records { IfOk result (λ rewrote. IsCompacted journal_room
+            (records_of self.old, past_of self.old) (records_of self.new, past_of self.new)
+            node keep.now rewrote) }
+        ensures error { IfErr result (λ error. error ≡ WorldErr.OutOfMemory) }
+        ensures others { OnErr result (AreOthersSame (records_of self.old, past_of self.old)
+            (records_of self.new, past_of self.new) node) }
+        ensures other_disks { AreOtherNodesSame self.old self.new node }
+    {
+        let own = self.take(alloc, node)?;
+        let (own, rewrote) = own.compact(alloc, keep)?;
+        self.put_in(node, own)?;
+        Ok(rewrote)
     }
 
     fn body(

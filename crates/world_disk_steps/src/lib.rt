@@ -31,8 +31,9 @@ pub fn appended(
     requires call { IsInAppend stop }
     ensures own { IfOk result (λ node. node.records ≡
         own_after store.records rec.now (kept_by stop)) }
+    ensures superblock { IfOk result (λ node. node.superblock ≡ store.superblock) }
     ensures disk { IfOk result (λ node. IsDiskAfter stop store.records rec.now node.disk) }
-    ensures room { IsFullExactly (journal_overflow store.records rec.now) result }
+    ensures room { IsFullExactly (journal_overflow store.superblock store.records rec.now) result }
     ensures error { IfErr result IsFullOrMemory }
 {
     match stop {
@@ -45,6 +46,7 @@ pub fn appended(
 /// its records and its disk are as before.
 pub fn read_again(alloc: Global, store: &mut NodeStore) -> Result<Vec<Record>, WorldErr>
     ensures same { store.new.records ≡ store.old.records }
+    ensures superblock { store.new.superblock ≡ store.old.superblock }
     ensures found { IfOk result (λ found. found.items ≡ store.old.records) }
     ensures read { IfOk result (λ found. IsReadAgain store.old.disk store.new.disk found.items) }
     ensures error { IfErr result (λ error. error ≡ WorldErr.OutOfMemory) }

@@ -1,20 +1,15 @@
 use Rattle.std.proofs.Common.{refl}
 use Rattle.disk_model.specs.Changes.{memory_kept}
 use Rattle.xt_journal.specs.Access as journal
-use Rattle.xt_journal.specs.Reading.{Foreign, Unknown, Damaged, payloads_of}
-use Rattle.world_disk.proofs.StoredRecords.{is_loaded, no_superblock, nothing_else, stands_plain}
+use Rattle.xt_journal.specs.Reading.{Foreign, Unknown, Damaged}
+use Rattle.world_disk.proofs.StoredRecords.{is_loaded, nothing_else}
 use Rattle.world_disk.proofs.node_store.journal_on.Goals as goal
 
 pub returns-in-Ok-clause-loaded : goal.returns-in-Ok-clause-loaded
 returns-in-Ok-clause-loaded c = is_loaded c.args.disk (journal.disk_of c.in-Ok.found.0) c.requires.made (c.in-Ok.ensures.any_moment refl)
 
 pub returns-in-Ok-clause-reads : goal.returns-in-Ok-clause-reads
-returns-in-Ok-clause-reads c =
-    stands_plain (memory_kept c.args.disk).read (journal.superblock_of c.in-Ok.found.0) (payloads_of c.in-Ok.found.1.items) c.requires.stands (c.in-Ok.ensures.superblock refl)
-
-pub returns-in-Ok-clause-plain : goal.returns-in-Ok-clause-plain
-returns-in-Ok-clause-plain c =
-    no_superblock (memory_kept c.args.disk).read (journal.superblock_of c.in-Ok.found.0) (payloads_of c.in-Ok.found.1.items) c.requires.stands (c.in-Ok.ensures.superblock refl)
+returns-in-Ok-clause-reads c = c.in-Ok.ensures.superblock refl
 
 pub unreachable-requires-in-Err-NotOurs : goal.unreachable-requires-in-Err-NotOurs
 unreachable-requires-in-Err-NotOurs c =

@@ -1,20 +1,28 @@
-use Rattle.std.proofs.Common.{List, ◌∙◌, ap, subst, sym}
+use Rattle.std.proofs.Common.{ℕ, List, Option, ◌∙◌, ap, subst, sym}
 use Rattle.disk_model.specs.Changes.{Memory, memory_kept}
 use Rattle.xt_journal.specs.Access as journal
 use Rattle.xt_journal.specs.declared.placed.Placed.{Placed}
-use Rattle.xt_journal.specs.Format.{KeepsJournal}
+use Rattle.xt_journal.specs.Format.{KeepsJournal, StandsIn}
+use Rattle.journal_areas.specs.declared.superblock.Superblock.{Superblock}
 use Rattle.xt_journal.specs.Reading.{payloads_of}
 use Rattle.object_store.specs.Access.{records_of}
-use Rattle.object_store.specs.Texts.{IsFirstBad}
+use Rattle.object_store.specs.Texts.{IsFirstBad, texts_of}
 use Rattle.world_disk.specs.Ends.{IsLoadedWith}
 use Rattle.world_disk.proofs.StoredRecords.{are_on, none_bad, short_payloads}
 use Rattle.world_disk.proofs.node_store.store_on.Goals as goal
 
 pub returns-in-Ok-clause-reads : goal.returns-in-Ok-clause-reads
 returns-in-Ok-clause-reads c =
-    are_on (memory_kept c.args.disk).read (payloads_of c.in_ok-journal.payloads.items) (records_of c.in-Ok.store) c.in_ok-journal.ensures.reads
+    let super = journal.superblock_of c.in_ok-journal.journal in
+    are_on (memory_kept c.args.disk).read super (payloads_of c.in_ok-journal.payloads.items) (records_of c.in-Ok.store) c.in_ok-journal.ensures.reads
     (c.in-Ok.ensures.1 ∙ ap payloads_of c.as_slice.ensures.value) c.in-Ok.store.sound
-    (short_payloads (memory_kept c.args.disk).read (payloads_of c.in_ok-journal.payloads.items) c.requires.stands c.in_ok-journal.ensures.reads)
+    (short_payloads (memory_kept c.args.disk).read super (payloads_of c.in_ok-journal.payloads.items) c.requires.stands c.in_ok-journal.ensures.reads)
+
+pub returns-in-Ok-clause-superblock : goal.returns-in-Ok-clause-superblock
+returns-in-Ok-clause-superblock c =
+    let texts = c.in-Ok.ensures.1 ∙ ap payloads_of c.as_slice.ensures.value in
+    subst (λ (super : Option Superblock). StandsIn super (memory_kept c.args.disk).read (texts_of (records_of c.in-Ok.store))) (sym (ap journal.superblock_of c.in-Ok.ensures.0))
+    (subst (λ (ps : List (List ℕ)). StandsIn (journal.superblock_of c.in_ok-journal.journal) (memory_kept c.args.disk).read ps) (sym texts) c.in_ok-journal.ensures.reads)
 
 pub returns-in-Ok-clause-loaded : goal.returns-in-Ok-clause-loaded
 returns-in-Ok-clause-loaded c =
@@ -23,7 +31,7 @@ returns-in-Ok-clause-loaded c =
 pub unreachable-requires : goal.unreachable-requires
 unreachable-requires c =
     let told = rw c.in-Err-BadRecord.field-0-is at c.in-Err-BadRecord.ensures in
-    none_bad (memory_kept c.args.disk).read (payloads_of c.in_ok-journal.payloads.items) c.in-Err-BadRecord.field-0-0 c.requires.stands
+    none_bad (memory_kept c.args.disk).read (journal.superblock_of c.in_ok-journal.journal) (payloads_of c.in_ok-journal.payloads.items) c.in-Err-BadRecord.field-0-0 c.requires.stands
     c.in_ok-journal.ensures.reads
     (subst (λ (ps : List Placed). IsFirstBad (payloads_of ps) c.in-Err-BadRecord.field-0-0) c.as_slice.ensures.value told.1)
 

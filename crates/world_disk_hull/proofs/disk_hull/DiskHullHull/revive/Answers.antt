@@ -1,9 +1,9 @@
-use Rattle.std.proofs.Common.{◌≡◌, ℕ, List, [], ◌∷◌, ◌++◌, Option, unwrap_or, IsSome, refl, sym, ◌∙◌, ap, subst}
+use Rattle.std.proofs.Common.{◌≡◌, ℕ, [], ◌∷◌, ◌++◌, Option, unwrap_or, IsSome, refl, sym, ◌∙◌, ap, subst}
 use Rattle.std.proofs.lemmas.Result.{IfOk-weaker}
 use Rattle.std.specs.BTreeMap.{BTreeMap, get}
 use Rattle.std.specs.Ordering.{nat_cmp}
 use Rattle.xt_protocol.specs.Folds.{fold_of, logged_of}
-use Rattle.world_spec.specs.World.{Deed, loads}
+use Rattle.world_spec.specs.World.{loads}
 use Rattle.world_hull.specs.Appends.{with_deed}
 use Rattle.world_hull.proofs.Failures.{on_err}
 use Rattle.world_disk.specs.Ends.{IsReadAgain}
