@@ -131,7 +131,8 @@ pub fn serve<N: Node, L: Link, C: Clock, D: Disk>(
     ensures cause { HasServeCause (L.fault_count link.old) (L.fault_count link.new)
         (C.fault_count clock.old) (C.fault_count clock.new) result.0 }
     ensures disk_cause { TellsDiskCount (D.fault_count (disk_of store)) (D.fault_count result.1) result.0 }
-    ensures keeps { let start = standing (N.state site.old.node) (records_of store) (journal_at store)
+    ensures keeps { let start =
+        standing (N.state site.old.node) (records_of store) (journal_at store)
         site.old.own site.old.ears site.old.clock site.old.due site.old.sender.count site.old.woken in
         (s : IsServed (N.role site.old.node) site.old.sender.boot bounds.period start bounds.turns
         (L.given link.old) (L.given link.new) (L.sent link.old) (L.sent link.new)
