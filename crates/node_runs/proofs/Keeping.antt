@@ -2,7 +2,7 @@
 use Rattle.std.proofs.Common.{ℕ, ◌≡◌, ◌≤◌, ◌⊎◌, refl, sym, subst, Bool, Option, Some, None, List, [], ◌∷◌, ◌++◌, inl, inr, ⊎_elim}
 use Rattle.std.specs.Prelude.{IsTrue}
 use Rattle.disk_model.specs.Disk.{Kept, IsImage, LeavesOnly}
-use Rattle.disk_model.proofs.Moments.{begun, joined, weaker}
+use Rattle.disk_model.proofs.Moments.{begun, weaker}
 use Rattle.xt_messages.specs.declared.record.Record.{Record}
 use Rattle.xt_journal.specs.Append.{IsWithOrWithout}
 use Rattle.xt_journal.specs.Format.{StandsFor, KeepsJournal}
@@ -102,19 +102,3 @@ module _ {D : Type 0} (moment : D → ℕ) (left_since : D → ℕ → List ℕ 
       then_next (records ∷ []) records start before first (from_start here) on kept
   from_before before first records start here on lists now disk (then_next lists' now' next between after run step kept) =
       then_next (records ∷ lists') now' next between after (from_before before first records start here on lists' now' between run) step kept
-
-  -- what is kept now is the last of the lists
-  pub now_among : (first : D) (start : List Record) (lists : List (List Record)) (now : List Record) (disk : D)
-      → KeptInTurn moment left_since first start lists now disk → (image : List ℕ) → StandsFor image (texts_of now) → StandsForOne lists image
-  now_among first start lists now disk (from_start kept) image is = inl is
-  now_among first start lists now disk (then_next lists' now' next between after run step kept) image is = one_of_later lists' (next ∷ []) image (inl is)
-
-  -- a crash at any moment leaves one of the lists
-  pub leaves_one : (first : D) (start : List Record) (lists : List (List Record)) (now : List Record) (disk : D)
-      → KeptInTurn moment left_since first start lists now disk → LeavesOnly moment left_since first disk (StandsForOne lists)
-  leaves_one first start lists now disk (from_start kept) = begun moment left_since first (StandsForOne (start ∷ [])) (λ image left. inl (kept image left))
-  leaves_one first start lists now disk (then_next lists' now' next between after run step kept) =
-      joined moment left_since first between after (StandsForOne lists') (StandsForOne (now' ∷ next ∷ [])) (StandsForOne (lists' ++ next ∷ []))
-      (leaves_one first start lists' now' between run) step (one_of_first lists' (next ∷ []))
-      (λ image. ⊎_elim (λ was. one_of_first lists' (next ∷ []) image (now_among first start lists' now' between run image was))
-      (λ is. one_of_later lists' (next ∷ []) image is))

@@ -87,7 +87,7 @@ moved_to journal records = record journal {
   end = need_for journal.superblock journal.end (size_of records) - 1;
 }
 
--- what the journal would need that has no room for such an area; None where it has room
+-- What the journal would need that has no room for such an area, or its limit, where the numbers of areas are spent; None where it has room.
 abbrev pub lacks : JournalAt → List Record → Option ℕ
 lacks journal records = full_need journal.superblock journal.end (size_of records) journal.limit
 
