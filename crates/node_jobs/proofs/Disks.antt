@@ -1,5 +1,5 @@
 -- what a node does to its disk, one thing after the other
-use Rattle.std.proofs.Common.{ℕ, ◌≡◌, ◌≤◌, ◌<◌, sym, ◌∙◌, ap, subst, inl, inr, ⊎_elim, Option, Some, None, List, [], ◌∷◌, ◌++◌, length, Ok}
+use Rattle.std.proofs.Common.{ℕ, ◌≡◌, ◌≤◌, ◌<◌, sym, ◌∙◌, ap, subst, inl, inr, ⊎_elim, Option, Some, None, List, [], ◌∷◌, length, Ok}
 use Rattle.std.specs.Prelude.{Bool, IsTrue}
 use Rattle.std.proofs.lemmas.Bool.{cases_lt}
 use Rattle.disk_model.specs.declared.disk.Disk.{Ghosts}
@@ -24,14 +24,14 @@ use Rattle.object_store.specs.Access.{disk_of, records_of, journal_of as journal
 use Rattle.object_store.specs.Loading.{IsLoadOf}
 use Rattle.object_store.specs.Texts.{texts_of}
 use Rattle.world_spec.specs.World.{Deed}
-use Rattle.node_runs.specs.Keeping.{StandsForOne, KeepsOn, done_to}
-use Rattle.node_runs.specs.Runs.{extent_at, grown}
+use Rattle.node_runs.specs.Keeping.{KeepsWith, KeptInTurn, from_start, then_next}
+use Rattle.node_runs.specs.Runs.{JournalAt, grown}
 use Rattle.node_runs.specs.Serving.{put_of}
-use Rattle.node_runs.proofs.Keeping.{keeps_one_more, one_of_first, stands_last, stays, stays_closed}
+use Rattle.node_runs.proofs.Keeping.{keeps_now, stands_last, stays_closed}
 use Rattle.node_loop.specs.Events.{HasDiskCause}
-use Rattle.node_loop.specs.Stores.{extent_of}
+use Rattle.node_loop.specs.Stores.{journal_at}
 use Rattle.node_jobs.specs.Boots.{boot_record, booted}
-use Rattle.node_jobs.specs.Disks.{Medium, MayBeLeft, StandsWith, HasBadRecord, EndsUnloaded, EndsUnbooted, IsLeftUnloaded, IsUnloaded, IsUnbooted, KeepsFrom, ComesFrom, IsLoaded, IsBooted, CannotBoot, TakeIn}
+use Rattle.node_jobs.specs.Disks.{Medium, StandsWith, HasBadRecord, EndsUnloaded, EndsUnbooted, IsLeftUnloaded, IsUnloaded, IsUnbooted, KeepsFrom, ComesFrom, ComesTo, IsLoaded, IsBooted, CannotBoot, StandAt}
 
 -- what contracts are told of a disk, as a trait's members
 abbrev pub medium_of : {D : Type 0} → Ghosts D → Medium D
@@ -96,45 +96,30 @@ module _ {D : Type 0} (m : Medium D) where
         room = is.room;
         stood = λ told. subst (λ (k : Kept). StandsIn (superblock_of (journal_in store)) k.read (texts_of (records_of store))) (same told) (is.stood told);
         comes = record {
-          loaded = is.comes.loaded;
           stood = λ told. subst (λ (k : Kept). StandsFor k.read (texts_of (records_of store))) (same told) (is.comes.stood told);
-          loads = loads_from is.comes.loaded is.comes.loads;
-          goes = is.comes.goes;
+          loads = loads_from (disk_of store) is.comes.loads;
+          kept = is.comes.kept;
           faults = is.comes.faults ∙ faults;
         };
       }
 
   -- ---- records were given, and others after them
 
-  -- one list of records more
-  pub comes_on : (before mid after : D) (records next : List Record) → ComesFrom m before mid records (records ∷ [])
-      → KeepsOn m.is_told m.moment m.left_since mid after (records ∷ next ∷ []) → m.fault_count after ≡ m.fault_count mid
-      → ComesFrom m before after records (records ∷ next ∷ [])
-  comes_on before mid after records next comes on faults = record {
-    loaded = comes.loaded;
-    stood = comes.stood;
-    loads = comes.loads;
-    goes = keeps_one_more m.is_told m.kept m.moment m.left_since comes.loaded mid after (records ∷ []) records next comes.goes (λ image is. inl is) on;
-    faults = faults ∙ comes.faults;
-  }
-
-  -- some lists of records, and others after them, which are all among those that are told
-  pub keeps_from : (before mid after : D) (records : List Record) (first more moments : List (List Record)) (settled : List Record) (met : Option Deed)
-      → ComesFrom m before mid records first → KeepsOn m.is_told m.moment m.left_since mid after more
-      → ((image : List ℕ) → StandsForOne first image → StandsForOne (moments ++ done_to settled met ∷ []) image)
-      → ((image : List ℕ) → StandsForOne more image → StandsForOne (moments ++ done_to settled met ∷ []) image)
+  -- some lists of records in turn, those that were given first
+  pub keeps_from : (before loaded until after : D) (records : List Record) (lists : List (List Record)) (settled : List Record) (met : Option Deed)
+      → ComesFrom m before loaded records → (IsTrue m.is_told → KeptInTurn m.moment m.left_since loaded records lists settled until)
+      → KeepsWith m.is_told m.moment m.left_since until after settled met
       → (IsTrue m.is_told → (image : List ℕ) → IsImage (m.kept after) image → StandsWith settled met image)
-      → KeepsFrom m before after records moments settled met
-  keeps_from before mid after records first more moments settled met comes on those these last =
-      let all = moments ++ done_to settled met ∷ [] in
-      record {
-        stood = comes.stood;
-        each = λ told. joined m.moment m.left_since before comes.loaded after (LeavesAsBefore (m.kept before)) (StandsForOne all)
-            (MayBeLeft (m.kept before) all) (comes.loads told)
-            (joined m.moment m.left_since comes.loaded mid after (StandsForOne first) (StandsForOne more) (StandsForOne all) (comes.goes told) (on told) those these)
-            (λ image was. inl was) (λ image is. inr is);
-        last = last;
-      }
+      → KeepsFrom m before after records lists settled met
+  keeps_from before loaded until after records lists settled met comes in_turn ending last = record {
+    stood = comes.stood;
+    loaded = loaded;
+    loads = comes.loads;
+    until = until;
+    in_turn = in_turn;
+    ending = ending;
+    last = last;
+  }
 
   module _ {g : Ghosts D}
       (counts_now : (disk : D) (t : ℕ) (image : List ℕ) → IsTrue m.is_told → t ≤ m.moment disk → IsImage (m.kept disk) image → m.left_since disk t image) where
@@ -150,9 +135,8 @@ module _ {D : Type 0} (m : Medium D) where
           stood = is.stood;
           why = subst (λ (n : ℕ). EndsUnbooted m.is_told (superblock_of (journal_in store)) records n cannot.met said) is.room cannot.why;
           cause = subst (λ (n : ℕ). HasDiskCause n (m.fault_count after) said) is.comes.faults cannot.cause;
-          keeps = keeps_from before (disk_of store) after records (records ∷ []) (records ∷ done_to records (put_of cannot.met) ∷ []) (records ∷ [])
-              records (put_of cannot.met) is.comes cannot.keeps
-              (one_of_first (records ∷ []) (done_to records (put_of cannot.met) ∷ [])) (λ image is. is)
+          keeps = keeps_from before (disk_of store) (disk_of store) after records (records ∷ []) records (put_of cannot.met) is.comes
+              (λ told. from_start (is.comes.kept told)) cannot.keeps
               (λ told image now. stands_last m.is_told m.kept m.moment m.left_since (disk_of store) after records (put_of cannot.met)
               (λ i t later is. counts_now after (m.moment (disk_of store)) i t later is) cannot.keeps told image now);
         }
@@ -160,15 +144,16 @@ module _ {D : Type 0} (m : Medium D) where
 module _ {D : Type 0} {g : Ghosts D}
     (only_now : (disk : D) (image : List ℕ) → IsTrue g.is_told → g.left_since disk (g.moment disk) image → IsImage (g.kept disk) image) where
   -- the store of a node that kept its boot is closed
-  pub closed_from : (before after : D) (store : Store D g) (records : List Record)
-      → ComesFrom (medium_of g) before (disk_of store) records (records ∷ records_of store ∷ [])
-      → records_of store ≡ booted records → after ≡ disk_of store → KeepsFrom (medium_of g) before after records (records ∷ []) (booted records) None
-  closed_from before after store records comes is same =
+  pub closed_from : (before loaded after : D) (store : Store D g) (records : List Record)
+      → ComesFrom (medium_of g) before loaded records → ComesTo (medium_of g) loaded (disk_of store) records (records_of store)
+      → records_of store ≡ booted records → after ≡ disk_of store
+      → KeepsFrom (medium_of g) before after records (records ∷ booted records ∷ []) (booted records) None
+  closed_from before loaded after store records comes to is same =
       let all = records_of store in
-      subst (λ (rs : List Record). KeepsFrom (medium_of g) before after records (records ∷ []) rs None) is
-      (keeps_from (medium_of g) before (disk_of store) after records (records ∷ all ∷ []) (all ∷ all ∷ []) (records ∷ []) all None comes
+      subst (λ (rs : List Record). KeepsFrom (medium_of g) before after records (records ∷ rs ∷ []) rs None) is
+      (keeps_from (medium_of g) before loaded (disk_of store) after records (records ∷ all ∷ []) all None comes
+      (λ told. then_next (records ∷ []) records all loaded (disk_of store) (from_start (comes.kept told)) (to.each told) (to.kept told))
       (stays_closed g.is_told g.kept g.moment g.left_since (disk_of store) after all None same store.keeps (λ image told left. only_now (disk_of store) image told left))
-      (λ image was. was) (λ image. ⊎_elim (λ was. inr (inl was)) (λ is. inr is))
       (λ told image now. inl (each_stands (g.kept (disk_of store)) (texts_of all) image (store.keeps told)
       (subst (λ (d : D). IsImage (g.kept d) image) same now))))
 
@@ -185,25 +170,30 @@ module _ {D : Type 0} {g : Ghosts D}
         subst (λ (super : Option Superblock). StandsIn super (g.kept before).read (texts_of (records_of store))) (sym (ap (λ (j : Journal D g). superblock_of j) is.0))
         (subst (λ (ps : List (List ℕ)). StandsIn (superblock_of from) (g.kept before).read ps) (sym (is.1 ∙ are)) (stood told));
     comes = record {
-      loaded = disk_of store;
       stood = λ told. subst (λ (ps : List (List ℕ)). StandsFor (g.kept before).read ps) (sym (is.1 ∙ are)) (reads_stand (g.kept before).read placed (reads told).reads);
       loads = λ told.
           subst (λ (j : Journal D g). LeavesOnly g.moment g.left_since before (journal.disk_of j) (LeavesAsBefore (g.kept before))) (sym is.0) (loads told);
-      goes = stays g.is_told g.kept g.moment g.left_since (disk_of store) (records_of store) store.keeps (λ image told left. only_now (disk_of store) image told left);
+      kept = keeps_now g.is_told g.kept g.moment g.left_since (disk_of store) (records_of store) store.keeps (λ image told left. only_now (disk_of store) image told left);
       faults = ap (λ (j : Journal D g). g.fault_count (journal.disk_of j)) is.0 ∙ faults;
     };
   }
 
--- how much the records take of a store that was loaded, and was given the record of its boot
+-- where the records stand of a store that was loaded, and was given the record of its boot
 module _ {D : Type 0} {g : Ghosts D} where
-  pub take_in : (before : D) (limit : ℕ) (old new : Store D g) (boot : Boot) → IsLoaded (medium_of g) before limit old → IsBooted (medium_of g) old new boot
-      → IsTrue g.is_told → TakeIn (g.kept before).read (records_of old) (boot_record (records_of old)) (extent_of new)
-  take_in before limit old new boot is boots told =
+  pub stand_at : (before : D) (limit : ℕ) (old new : Store D g) (boot : Boot) → IsLoaded (medium_of g) before limit old → IsBooted (medium_of g) old new boot
+      → IsTrue g.is_told → StandAt (g.kept before).read (records_of old) (boot_record (records_of old)) (journal_at new)
+  stand_at before limit old new boot is boots told =
       let super = superblock_of (journal_in old) in
+      let rec = boot_record (records_of old) in
       let place : place_of (journal_in old) ≡ end_in super (texts_of (records_of old)) =
       place_of_end super (g.kept (disk_of old)) (place_of (journal_in old)) (texts_of (records_of old)) ((journal_in old).ends told) (old.keeps told) in
       record {
         super = super;
-        stands = is.stood told;
-        is = boots.extent ∙ ap (λ (end : ℕ). grown (extent_at super end) (Some (boot_record (records_of old)))) place;
+        stand = is.stood told;
+        is = boots.journal ∙ (λ i. grown (record { superblock = super; end = place i; limit = sym (ap (λ (j : JournalAt). j.limit) boots.journal) i }) (Some rec));
       }
+
+  -- how long its journal may be
+  pub room_at : (before : D) (limit : ℕ) (old new : Store D g) (boot : Boot) → IsLoaded (medium_of g) before limit old → IsBooted (medium_of g) old new boot
+      → (journal_at new).limit ≡ limit
+  room_at before limit old new boot is boots = ap (λ (j : JournalAt). j.limit) boots.journal ∙ is.room

@@ -1,5 +1,5 @@
 -- a node that was ready and served
-use Rattle.std.proofs.Common.{ℕ, ◌+◌, ◌<◌, ◌^◌, Option, ◌≡◌, sym, ap, subst, ◌∙◌, false, inl, inr, List, [], ◌∷◌, ◌++◌}
+use Rattle.std.proofs.Common.{ℕ, ◌+◌, ◌<◌, ◌^◌, Option, ◌≡◌, sym, ap, subst, ◌∙◌, false, List, [], ◌∷◌}
 use mathlib.Core.Path.{transport}
 use Rattle.std.specs.Prelude.{IsTrue}
 use Rattle.std.specs.List.{All}
@@ -17,10 +17,10 @@ use Rattle.object_store.specs.Access.{disk_of, records_of}
 use Rattle.object_store.specs.Texts.{AreRecords}
 use Rattle.node_links.specs.Streams.{Puts}
 use Rattle.node_runs.specs.Hearing.{Ears}
-use Rattle.node_runs.specs.Keeping.{KeepsServed, StandsForOne, records_with}
-use Rattle.node_runs.specs.Runs.{Role, Served, Extent, kept_through}
+use Rattle.node_runs.specs.Keeping.{KeepsServed}
+use Rattle.node_runs.specs.Runs.{Role, Served, JournalAt, kept_through}
 use Rattle.node_runs.specs.Serving.{IsServed}
-use Rattle.node_runs.proofs.Keeping.{one_of_first, start_among}
+use Rattle.node_runs.proofs.Keeping.{from_before}
 use Rattle.node_loop.specs.Events.{TellsDiskCount}
 use Rattle.node_loop.specs.Turns.{standing}
 use Rattle.node_loop.proofs.Counting.{cause_since}
@@ -31,7 +31,7 @@ use Rattle.server_limits.proofs.Keeping.{mrc_starts}
 use Rattle.mrc_core.specs.Picking.{CanTake}
 use Rattle.mrc_core.proofs.Fitting.{can_take}
 use Rattle.node_jobs.specs.Boots.{next_boot, booted}
-use Rattle.node_jobs.specs.Disks.{Medium, KeepsFrom, ComesFrom}
+use Rattle.node_jobs.specs.Disks.{Medium, KeepsFrom, ComesFrom, ComesTo}
 use Rattle.node_jobs.specs.Jobs.{NodeJob, IsNodeJob, IsReady, Outside, EndsEarly, has_served, unready, starting}
 use Rattle.node_jobs.proofs.Disks.{closed_from, keeps_from, medium_of}
 use Rattle.node_jobs.proofs.Jobs.{boot_fits}
@@ -41,39 +41,30 @@ module _ {D S : Type 0} (m : Medium D) (before after : Outside D) (turns : ℕ) 
   abbrev Serves : Role S → Boot → ℕ → Served S → Outside D → Type 0
   Serves role boot period start ready =
       (s : IsServed role boot period start turns ready.given after.given ready.sent after.sent ready.losses after.losses ready.readings after.readings said)
-      × KeepsServed m.is_told m.kept m.moment m.left_since ready.disk after.disk
+      × KeepsServed m.is_told m.kept m.moment m.left_since ready.disk after.disk start
       (kept_through role boot period ready.given start s.to_come s.turns s.posts s.end s.comes) s.end s.undone
 
-  module _ (role : Role S) (boot : Boot) (period : ℕ) (start : Served S) (ready : Outside D) (records : List Record) (comes : ComesFrom m before.disk ready.disk records (records ∷ start.kept ∷ []))
-      (serves : Serves role boot period start ready) where
+  module _ (role : Role S) (boot : Boot) (period : ℕ) (start : Served S) (ready : Outside D) (records : List Record) (loaded : D)
+      (comes : ComesFrom m before.disk loaded records) (to : ComesTo m loaded ready.disk records start.kept) (serves : Serves role boot period start ready) where
     abbrev through : List (List Record)
     through = kept_through role boot period ready.given start serves.0.to_come serves.0.turns serves.0.posts serves.0.end serves.0.comes
 
-    abbrev all : List (List Record)
-    all = through ++ records_with serves.0.end serves.0.undone ∷ []
-
-    -- what it kept when it was ready is what it kept as serving began
-    those : (image : List ℕ) → StandsForOne (records ∷ start.kept ∷ []) image → StandsForOne (records ∷ all) image
-    those image (inl was) = inl was
-    those image (inr (inl is)) =
-        inr (one_of_first through (records_with serves.0.end serves.0.undone ∷ []) image
-        (start_among role boot period ready.given start serves.0.to_come serves.0.turns serves.0.posts serves.0.end serves.0.comes image is))
-    those image (inr (inr none)) = absurd none
-
     kept_on : KeepsFrom m before.disk after.disk records (records ∷ through) serves.0.end.kept serves.0.undone.met
-    kept_on = keeps_from m before.disk ready.disk after.disk records (records ∷ start.kept ∷ []) all (records ∷ through) serves.0.end.kept serves.0.undone.met
-        comes serves.1.each those (λ image is. inr is) serves.1.last
+    kept_on = keeps_from m before.disk loaded serves.1.until after.disk records (records ∷ through) serves.0.end.kept serves.0.undone.met comes
+        (λ told. from_before m.moment m.left_since loaded ready.disk records start.kept (comes.kept told) (to.each told) through serves.0.end.kept serves.1.until
+        (serves.1.in_turn told))
+        serves.1.ending serves.1.last
 
 -- the node as it begins
-starts_as : {S : Type 0} (state state' : S) (kept kept' : List Record) (extent : Extent) (own : List Msg) (ears ears' : Ears) (reading period due : ℕ)
+starts_as : {S : Type 0} (state state' : S) (kept kept' : List Record) (journal : JournalAt) (own : List Msg) (ears ears' : Ears) (reading period due : ℕ)
     → state ≡ state' → kept ≡ kept' → own ≡ [] → ears ≡ ears' → due ≡ reading + period
-    → standing state kept extent own ears reading due 0 false ≡ starting state' kept' extent ears' reading period
-starts_as state state' kept kept' extent own ears ears' reading period due s k o e d =
-    λ i. record { state = s i; kept = k i; own = o i; ears = e i; clock = reading; due = d i; count = 0; extent = extent; woken = false }
+    → standing state kept journal own ears reading due 0 false ≡ starting state' kept' journal ears' reading period
+starts_as state state' kept kept' journal own ears ears' reading period due s k o e d =
+    λ i. record { state = s i; kept = k i; own = o i; ears = e i; clock = reading; due = d i; count = 0; journal = journal; woken = false }
 
 -- a node that was ready and served from there has done its job
-module _ {D S : Type 0} (m : Medium D) (job : NodeJob S) (before ready after : Outside D) (said : Status) (kept : List Record) (boot : Boot) (reading : ℕ) (extent : Extent)
-    (is : IsReady m job.ready before ready kept boot reading extent) where
+module _ {D S : Type 0} (m : Medium D) (job : NodeJob S) (before ready after : Outside D) (said : Status) (kept : List Record) (boot : Boot) (reading : ℕ) (journal : JournalAt)
+    (is : IsReady m job.ready job.limit before ready kept boot reading journal) where
   -- the link as it was when the node was ready is as it was before
   as_before : ready ≡ record before { readings = ready.readings; held = ready.held; disk = ready.disk }
   as_before = λ i. record {
@@ -87,12 +78,12 @@ module _ {D S : Type 0} (m : Medium D) (job : NodeJob S) (before ready after : O
 
   pub has_done : (role : Role S) (ears : Ears) (period due : ℕ) (state : S) (own : List Msg)
       → role ≡ job.role → state ≡ job.state_of kept reading → own ≡ [] → ears ≡ job.ears → period ≡ job.period → due ≡ reading + period
-      → after.held ≡ ready.held → Serves m before after job.turns said role boot period (standing state kept extent own ears reading due 0 false) ready
+      → after.held ≡ ready.held → Serves m before after job.turns said role boot period (standing state kept journal own ears reading due 0 false) ready
       → TellsDiskCount (m.fault_count ready.disk) (m.fault_count after.disk) said → IsNodeJob m job before after said
   has_done role ears period due state own same told none heard every when held serves count =
-      let started = starting (job.state_of (booted is.records) reading) (booted is.records) extent job.ears reading job.period in
-      let starts : standing state kept extent own ears reading due 0 false ≡ started =
-      starts_as state (job.state_of (booted is.records) reading) kept (booted is.records) extent own ears job.ears reading job.period due
+      let started = starting (job.state_of (booted is.records) reading) (booted is.records) journal job.ears reading job.period in
+      let starts : standing state kept journal own ears reading due 0 false ≡ started =
+      starts_as state (job.state_of (booted is.records) reading) kept (booted is.records) journal own ears job.ears reading job.period due
       (told ∙ ap (λ (rs : List Record). job.state_of rs reading) is.all_are) is.all_are none heard (when ∙ ap (λ (p : ℕ). reading + p) every) in
       let here : Serves m before after job.turns said job.role (next_boot is.records) job.period started
       (record before { readings = ready.readings; held = ready.held; disk = ready.disk }) =
@@ -101,8 +92,9 @@ module _ {D S : Type 0} (m : Medium D) (job : NodeJob S) (before ready after : O
         records = is.records;
         are = is.are;
         fits = is.fits;
-        extent = extent;
-        take = is.take;
+        journal = journal;
+        stand = is.stand;
+        room = is.room;
         reading = reading;
         between = ready.readings;
         read = is.reads;
@@ -110,32 +102,32 @@ module _ {D S : Type 0} (m : Medium D) (job : NodeJob S) (before ready after : O
         serves = here.0;
         keeps =
             kept_on m before after job.turns said job.role (next_boot is.records) job.period started
-            (record before { readings = ready.readings; held = ready.held; disk = ready.disk }) is.records
-            (subst (λ (rs : List Record). ComesFrom m before.disk ready.disk is.records (is.records ∷ rs ∷ [])) is.all_are is.comes) here;
-        disk_count = cause_since (m.fault_count before.disk) (m.fault_count ready.disk) (m.fault_count after.disk) said is.comes.faults count;
+            (record before { readings = ready.readings; held = ready.held; disk = ready.disk }) is.records is.loaded is.comes
+            (subst (λ (rs : List Record). ComesTo m is.loaded ready.disk is.records rs) is.all_are is.comes_to) here;
+        disk_count = cause_since (m.fault_count before.disk) (m.fault_count ready.disk) (m.fault_count after.disk) said (is.comes_to.faults ∙ is.comes.faults) count;
       })
 
 -- memory ran out after a node was ready, and its store was closed
 pub not_started : {D : Type 0} {g : Ghosts D}
     → ((disk : D) (image : List ℕ) → IsTrue g.is_told → g.left_since disk (g.moment disk) image → IsImage (g.kept disk) image)
-    → (ready : List ℕ) (limit : ℕ) (before after : Outside D) (store : Store D g) (boot : Boot) (reading : ℕ) (extent : Extent)
-    → IsReady (medium_of g) ready before (record after { disk = disk_of store }) (records_of store) boot reading extent → after.disk ≡ disk_of store
+    → (ready : List ℕ) (limit : ℕ) (before after : Outside D) (store : Store D g) (boot : Boot) (reading : ℕ) (journal : JournalAt)
+    → IsReady (medium_of g) ready limit before (record after { disk = disk_of store }) (records_of store) boot reading journal → after.disk ≡ disk_of store
     → EndsEarly (medium_of g) ready limit before after status.OutOfMemory
-not_started {g = g} only_now ready limit before after store boot reading extent is closed = unready (record {
+not_started {g = g} only_now ready limit before after store boot reading journal is closed = unready (record {
   records = is.records;
   are = is.are;
   fits = is.fits;
   silent = record { given = is.silent.given; sent = is.silent.sent; losses = is.silent.losses };
   why = ((reading, is.reads), is.told);
-  faults = ap g.fault_count closed ∙ is.comes.faults;
-  keeps = closed_from only_now before.disk after.disk store is.records is.comes is.all_are closed;
+  faults = ap g.fault_count closed ∙ is.comes_to.faults ∙ is.comes.faults;
+  keeps = closed_from only_now before.disk is.loaded after.disk store is.records is.comes is.comes_to is.all_are closed;
 })
 
 -- what was said is what is to be said
 module _ {D : Type 0} (m : Medium D) (before after : Outside D) (said ready : List ℕ) (same : said ≡ ready) where
-  pub says_so : (kept : List Record) (boot : Boot) (reading : ℕ) (extent : Extent) → IsReady m said before after kept boot reading extent
-      → IsReady m ready before after kept boot reading extent
-  says_so kept boot reading extent is = subst (λ (text : List ℕ). IsReady m text before after kept boot reading extent) same is
+  pub says_so : (limit : ℕ) (kept : List Record) (boot : Boot) (reading : ℕ) (journal : JournalAt)
+      → IsReady m said limit before after kept boot reading journal → IsReady m ready limit before after kept boot reading journal
+  says_so limit kept boot reading journal is = subst (λ (text : List ℕ). IsReady m text limit before after kept boot reading journal) same is
 
   pub says_early : (limit : ℕ) (ended : Status) → EndsEarly m said limit before after ended → EndsEarly m ready limit before after ended
   says_early limit ended is = subst (λ (text : List ℕ). EndsEarly m text limit before after ended) same is

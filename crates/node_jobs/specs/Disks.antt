@@ -1,5 +1,5 @@
 -- what a node does to its disk before it serves, and what it leaves on it in the end
-use Rattle.std.specs.Prelude.{ℕ, ◌≡◌, ◌≤◌, ◌⊎◌, Bool, IsTrue, Option, Some, None, List, [], ◌∷◌, ◌++◌, ◌+◌, length, get_or}
+use Rattle.std.specs.Prelude.{ℕ, ◌≡◌, ◌≤◌, ◌⊎◌, Bool, IsTrue, Option, Some, None, List, [], ◌∷◌, ◌+◌, length, get_or}
 use Rattle.disk_model.specs.declared.disk.Disk.{Ghosts}
 use Rattle.disk_model.specs.Disk.{Kept, IsImage, LeavesOnly, at_rest}
 use Rattle.xt_base.specs.declared.ids.Boot.{Boot}
@@ -18,11 +18,11 @@ use Rattle.object_store.specs.declared.store.Store.{Store}
 use Rattle.object_store.specs.Access.{disk_of, records_of, journal_of as journal_in}
 use Rattle.object_store.specs.Texts.{texts_of, AreRecords, IsFirstBad}
 use Rattle.world_spec.specs.World.{Deed}
-use Rattle.node_runs.specs.Keeping.{StandsForOne, KeepsOn, KeepsPut, done_to}
-use Rattle.node_runs.specs.Runs.{Extent, extent_in, grown}
+use Rattle.node_runs.specs.Keeping.{KeepsOn, KeepsPut, KeepsWith, KeepsNow, KeptInTurn, done_to}
+use Rattle.node_runs.specs.Runs.{JournalAt, journal_with, grown}
 use Rattle.node_runs.specs.Serving.{put_of}
 use Rattle.node_loop.specs.Events.{HasDiskCause, IsFullFor}
-use Rattle.node_loop.specs.Stores.{extent_of}
+use Rattle.node_loop.specs.Stores.{journal_at}
 use Rattle.node_jobs.specs.Boots.{stored_boot, next_boot, boot_record, booted}
 
 -- What contracts are told of a disk: whether they know what it keeps, and what that is; its moment, and what a crash at some moment
@@ -39,21 +39,17 @@ abbrev pub medium : {D : Type 0} → Bool → (D → Kept) → (D → ℕ) → (
 medium is_told kept moment left_since fault_count =
     record { is_told = is_told; kept = kept; moment = moment; left_since = left_since; fault_count = fault_count }
 
--- ---- what a crash leaves
-
--- What a crash may leave of a disk that kept this when it was handed in: what it might have left then, or one of these lists of records.
-abbrev pub MayBeLeft : Kept → List (List Record) → List ℕ → Type 0
-MayBeLeft first moments image = LeavesAsBefore first image ⊎ StandsForOne moments image
+-- ---- what is left
 
 -- these records stand there, or what is made of them, where that is done to them
 abbrev pub StandsWith : List Record → Option Deed → List ℕ → Type 0
 StandsWith records met image = StandsFor image (texts_of records) ⊎ StandsFor image (texts_of (done_to records met))
 
--- so much do these records take, and one more after them, once it is put, in a journal of these bytes
-pub record TakeIn (bytes : List ℕ) (records : List Record) (rec : Record) (extent : Extent) : Type 0 where
+-- There these records stand, and one more after them, once it is put, in a journal of these bytes.
+pub record StandAt (bytes : List ℕ) (records : List Record) (rec : Record) (journal : JournalAt) : Type 0 where
   pub super : Option Superblock
-  pub stands : StandsIn super bytes (texts_of records)
-  pub is : extent ≡ grown (extent_in super (texts_of records)) (Some rec)
+  pub stand : StandsIn super bytes (texts_of records)
+  pub is : journal ≡ grown (journal_with super (texts_of records) journal.limit) (Some rec)
 
 -- ---- why a node doesn't come to serve
 
@@ -116,12 +112,16 @@ module _ {D : Type 0} (m : Medium D) where
     pub each : IsTrue m.is_told → LeavesOnly m.moment m.left_since before after (LeavesAsBefore (m.kept before))
     pub left : IsTrue m.is_told → IsLeftUnloaded (m.kept before) (m.kept after)
 
-  -- The bytes of the disk stood for these records, and then it kept these lists of records one after the other. A crash at any moment
-  -- leaves what it might have left before, or one of those lists; in the end it leaves the one that is settled, or what is made of it,
-  -- where that may be done to it.
-  pub record KeepsFrom (before after : D) (records : List Record) (moments : List (List Record)) (settled : List Record) (met : Option Deed) : Type 0 where
+  -- The bytes of the disk stood for these records. Until it had given them, a crash left what it might have left before; then it kept
+  -- these lists of records in turn, those first, and at last the one that is settled. From then on a crash leaves that one, or what is
+  -- made of it, where that may be done to it; and so it is in the end.
+  pub record KeepsFrom (before after : D) (records : List Record) (lists : List (List Record)) (settled : List Record) (met : Option Deed) : Type 0 where
     pub stood : IsTrue m.is_told → StandsFor (m.kept before).read (texts_of records)
-    pub each : IsTrue m.is_told → LeavesOnly m.moment m.left_since before after (MayBeLeft (m.kept before) (moments ++ done_to settled met ∷ []))
+    pub loaded : D
+    pub loads : IsTrue m.is_told → LeavesOnly m.moment m.left_since before loaded (LeavesAsBefore (m.kept before))
+    pub until : D
+    pub in_turn : IsTrue m.is_told → KeptInTurn m.moment m.left_since loaded records lists settled until
+    pub ending : KeepsWith m.is_told m.moment m.left_since until after settled met
     pub last : IsTrue m.is_told → (image : List ℕ) → IsImage (m.kept after) image → StandsWith settled met image
 
   -- The disk gave records, and the boot after them isn't kept: a crash leaves its record or not, or it wasn't put.
@@ -137,13 +137,18 @@ module _ {D : Type 0} (m : Medium D) where
 
   -- ---- by the way
 
-  -- The disk gave these records, and kept these lists of them since. Until it had given them, a crash left what it might have left before.
-  pub record ComesFrom (before after : D) (records : List Record) (moments : List (List Record)) : Type 0 where
-    pub loaded : D
+  -- The disk gave these records, and keeps them. Until it had given them, a crash left what it might have left before.
+  pub record ComesFrom (before loaded : D) (records : List Record) : Type 0 where
     pub stood : IsTrue m.is_told → StandsFor (m.kept before).read (texts_of records)
     pub loads : IsTrue m.is_told → LeavesOnly m.moment m.left_since before loaded (LeavesAsBefore (m.kept before))
-    pub goes : KeepsOn m.is_told m.moment m.left_since loaded after moments
-    pub faults : m.fault_count after ≡ m.fault_count before
+    pub kept : IsTrue m.is_told → KeepsNow m.moment m.left_since loaded records
+    pub faults : m.fault_count loaded ≡ m.fault_count before
+
+  -- After these records it kept those, and keeps them. On the way a crash left the former or the latter.
+  pub record ComesTo (loaded after : D) (records all : List Record) : Type 0 where
+    pub each : KeepsOn m.is_told m.moment m.left_since loaded after (records ∷ all ∷ [])
+    pub kept : IsTrue m.is_told → KeepsNow m.moment m.left_since after all
+    pub faults : m.fault_count after ≡ m.fault_count loaded
 
   -- why the link couldn't be bound, or the disk gave no records
   abbrev pub CannotOpen : D → D → Status → Type 0
@@ -155,16 +160,15 @@ module _ {D : Type 0} (m : Medium D) where
       pub are : AreRecords (records_of store)
       pub room : limit_of (journal_in store) ≡ limit
       pub stood : IsTrue m.is_told → StandsIn (superblock_of (journal_in store)) (m.kept before).read (texts_of (records_of store))
-      pub comes : ComesFrom before (disk_of store) (records_of store) (records_of store ∷ [])
+      pub comes : ComesFrom before (disk_of store) (records_of store)
 
     -- the record of the next boot was put
     pub record IsBooted (old new : Store D g) (boot : Boot) : Type 0 where
       pub records : records_of new ≡ booted (records_of old)
       pub boot_is : boot ≡ next_boot (records_of old)
       pub fits : FitsBoot boot
-      pub extent : extent_of new ≡ grown (extent_of old) (Some (boot_record (records_of old)))
-      pub keeps : KeepsOn m.is_told m.moment m.left_since (disk_of old) (disk_of new) (records_of old ∷ records_of new ∷ [])
-      pub faults : m.fault_count (disk_of new) ≡ m.fault_count (disk_of old)
+      pub journal : journal_at new ≡ grown (journal_at old) (Some (boot_record (records_of old)))
+      pub comes_to : ComesTo (disk_of old) (disk_of new) (records_of old) (records_of new)
 
     -- it wasn't, and this is left
     pub record CannotBoot (old : Store D g) (disk : D) (said : Status) : Type 0 where

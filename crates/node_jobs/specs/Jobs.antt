@@ -17,11 +17,11 @@ use Rattle.node_links.specs.declared.link.Datagram.{Datagram}
 use Rattle.schedule_lines.specs.Fronts.{PutsFront}
 use Rattle.node_runs.specs.Hearing.{Ears, with_address}
 use Rattle.node_runs.specs.Links.{Reads}
-use Rattle.node_runs.specs.Runs.{Role, Served, Extent, kept_through}
+use Rattle.node_runs.specs.Runs.{Role, Served, JournalAt, kept_through}
 use Rattle.node_runs.specs.Serving.{IsServed}
 use Rattle.node_loop.specs.Events.{TellsDiskCount}
 use Rattle.node_jobs.specs.Boots.{next_boot, boot_record, booted}
-use Rattle.node_jobs.specs.Disks.{Medium, EndsUnopened, IsUnloaded, IsUnbooted, KeepsFrom, ComesFrom, TakeIn}
+use Rattle.node_jobs.specs.Disks.{Medium, EndsUnopened, IsUnloaded, IsUnbooted, KeepsFrom, ComesFrom, ComesTo, StandAt}
 
 -- ---- what a node is to do
 
@@ -56,9 +56,9 @@ abbrev pub osd_ready : NodeId → List ℕ
 osd_ready node = codes "ready " ++ decimal node.0 ++ 10 ∷ []
 
 -- a node that begins to serve, at a reading of its clock
-abbrev pub starting : {S : Type 0} → S → List Record → Extent → Ears → ℕ → ℕ → Served S
-starting state kept extent ears reading period =
-    record { state = state; kept = kept; own = []; ears = ears; clock = reading; due = reading + period; count = 0; extent = extent; woken = false }
+abbrev pub starting : {S : Type 0} → S → List Record → JournalAt → Ears → ℕ → ℕ → Served S
+starting state kept journal ears reading period =
+    record { state = state; kept = kept; own = []; ears = ears; clock = reading; due = reading + period; count = 0; journal = journal; woken = false }
 
 -- ---- what is outside
 
@@ -112,7 +112,7 @@ module _ {D : Type 0} (m : Medium D) where
     pub silent : IsSilent before after
     pub why : EndsUnready ready before.readings after.readings before.held after.held said
     pub faults : m.fault_count after.disk ≡ m.fault_count before.disk
-    pub keeps : KeepsFrom m before.disk after.disk records (records ∷ []) (booted records) None
+    pub keeps : KeepsFrom m before.disk after.disk records (records ∷ booted records ∷ []) (booted records) None
 
   -- Why a node ends before it serves, and what it has done by then: nothing was received or sent.
   pub data EndsEarly (ready : List ℕ) (limit : ℕ) (before after : Outside D) (said : Status) : Type 0 where
@@ -125,15 +125,20 @@ module _ {D : Type 0} (m : Medium D) where
     -- its boot is kept
     unready : IsUnready ready before after said → EndsEarly ready limit before after said
 
-  -- A node is ready: its disk gave these records, to which it put that of its boot; then it read its clock once, and then it said so.
-  pub record IsReady (ready : List ℕ) (before after : Outside D) (all : List Record) (boot : Boot) (reading : ℕ) (extent : Extent) : Type 0 where
+  -- A node is ready: its disk gave these records, to which it put that of its boot, in a journal that may have so many bytes; then it read
+  -- its clock once, and then it said so.
+  pub record IsReady (ready : List ℕ) (limit : ℕ) (before after : Outside D) (all : List Record) (boot : Boot) (reading : ℕ) (journal : JournalAt)
+      : Type 0 where
     pub records : List Record
     pub are : AreRecords records
-    pub take : IsTrue m.is_told → TakeIn (m.kept before.disk).read records (boot_record records) extent
+    pub stand : IsTrue m.is_told → StandAt (m.kept before.disk).read records (boot_record records) journal
+    pub room : journal.limit ≡ limit
     pub fits : FitsBoot (next_boot records)
     pub all_are : all ≡ booted records
     pub boot_is : boot ≡ next_boot records
-    pub comes : ComesFrom m before.disk after.disk records (records ∷ all ∷ [])
+    pub loaded : D
+    pub comes : ComesFrom m before.disk loaded records
+    pub comes_to : ComesTo m loaded after.disk records all
     pub silent : IsSilent before after
     pub reads : Reads before.readings after.readings (reading ∷ [])
     pub told : Puts before.held after.held ready
@@ -143,20 +148,21 @@ module _ {D : Type 0} (m : Medium D) where
     pub records : List Record
     pub are : AreRecords records
     pub fits : FitsBoot (next_boot records)
-    -- how much the records take as serving begins: what they took in the journal, and their boot
-    pub extent : Extent
-    pub take : IsTrue m.is_told → TakeIn (m.kept before.disk).read records (boot_record records) extent
+    -- where the records stand as serving begins: where they stood in the journal, with their boot after them
+    pub journal : JournalAt
+    pub stand : IsTrue m.is_told → StandAt (m.kept before.disk).read records (boot_record records) journal
+    pub room : journal.limit ≡ job.limit
     pub reading : ℕ
     pub between : Option (List ℕ)
     pub read : Reads before.readings between (reading ∷ [])
     pub told : Puts before.held after.held job.ready
     pub serves : IsServed job.role (next_boot records) job.period
-        (starting (job.state_of (booted records) reading) (booted records) extent job.ears reading job.period) job.turns
+        (starting (job.state_of (booted records) reading) (booted records) journal job.ears reading job.period) job.turns
         before.given after.given before.sent after.sent before.losses after.losses between after.readings said
-    -- A crash leaves its records, or those of some moment of the serving. In the end its disk has those after all that it did, or those
-    -- that it was about to keep as it ended.
+    -- Its disk kept its records, and then in turn those of the serving, from its boot on: a crash leaves none that are older than what it
+    -- kept by then. In the end it has those after all that it did, or those that it was about to keep as it ended.
     pub keeps : KeepsFrom m before.disk after.disk records (records ∷ kept_through job.role (next_boot records) job.period before.given
-        (starting (job.state_of (booted records) reading) (booted records) extent job.ears reading job.period)
+        (starting (job.state_of (booted records) reading) (booted records) journal job.ears reading job.period)
         serves.to_come serves.turns serves.posts serves.end serves.comes) serves.end.kept serves.undone.met
     pub disk_count : TellsDiskCount (m.fault_count before.disk) (m.fault_count after.disk) said
 

@@ -1,7 +1,7 @@
 ghost use Rattle.std.specs.Prelude.{◌≡◌, ◌<◌, ◌^◌, IfOk, IfErr};
 ghost use Rattle.object_store.specs.Access.{records_of, disk_of};
 ghost use Rattle.node_runs.specs.Serving.{HasServeCause};
-ghost use Rattle.node_loop.specs.Stores.{extent_of};
+ghost use Rattle.node_loop.specs.Stores.{journal_at};
 ghost use Rattle.node_jobs.specs.Disks.{medium};
 ghost use Rattle.node_jobs.specs.Jobs.{EndsEarly, HasSinkCause, IsReady};
 
@@ -36,6 +36,7 @@ pub fn get_ready<K: Sink, L: Link, D: Disk, C: Clock>(
 ) -> Result<Ready<D>, Ended<D>>
     ensures ready { IfOk result (λ ready. IsReady
         (medium D.is_told D.kept D.moment D.left_since D.fault_count) text.now
+        serving.now.settings.limit
         (record {
           given = L.given link.old;
           sent = L.sent link.old;
@@ -52,7 +53,7 @@ pub fn get_ready<K: Sink, L: Link, D: Disk, C: Clock>(
           held = K.held out.new;
           disk = disk_of ready.store;
         })
-        (records_of ready.store) ready.boot ready.reading (extent_of ready.store)) }
+        (records_of ready.store) ready.boot ready.reading (journal_at ready.store)) }
     ensures small { IfOk result (λ ready. ready.reading < 2 ^ 62) }
     ensures faults { IfOk result (λ ready. (L.fault_count link.new ≡ L.fault_count link.old)
         × (C.fault_count clock.new ≡ C.fault_count clock.old)

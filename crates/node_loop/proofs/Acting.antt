@@ -16,7 +16,8 @@ use Rattle.world_spec.specs.NodeSteps.{to_itself}
 use Rattle.node_links.specs.declared.link.Datagram.{Datagram}
 use Rattle.node_runs.specs.Hearing.{Book}
 use Rattle.node_runs.specs.Posting.{posted, none_posted, HasPosted, HasSentFront}
-use Rattle.node_loop.specs.Events.{EndsEvent, EndsPut, LeavesPut}
+use Rattle.node_runs.specs.Runs.{JournalAt, needed_in}
+use Rattle.node_loop.specs.Events.{EndsEvent, EndsPut, IsFullFor, LeavesPut}
 
 pub own_fits : (node : NodeId) (old outs own : List Msg) → own ≡ old ++ to_itself node outs → All FitsMessage old → All FitsMessage outs → All FitsMessage own
 own_fits node old outs own e before new =
@@ -36,10 +37,12 @@ whole_sent node home boot book kept before count msgs handed e same has with =
     )
 
 -- what a put leaves is what its event leaves; nothing of the event is sent
-pub ends_put : {S : Type 0} (step : Step S) (node : NodeId) (boot : Boot) (book : Book) (before : ℕ) (handed : List Datagram → Type 0)
-    (leaves : Option Record → Type 0) (rec : Record) (said : Status) → step.turned.rec ≡ Some rec → handed [] → EndsPut said
-    → LeavesPut leaves rec said → EndsEvent step node boot book before handed leaves said
-ends_put step node boot book before handed leaves rec (status.DiskFault count) is none ends left = (none, inl (subst leaves (sym is) left))
-ends_put step node boot book before handed leaves rec (status.JournalFull need limit) is none ends left = (none, left, (rec, is, ends))
-ends_put step node boot book before handed leaves rec status.OutOfMemory is none ends left = inr ((0, none), subst leaves (sym is) left)
-ends_put step node boot book before handed leaves rec _ is none ends left = absurd ends
+pub ends_put : {S : Type 0} (step : Step S) (node : NodeId) (boot : Boot) (book : Book) (before : ℕ) (journal : JournalAt)
+    (handed : List Datagram → Type 0) (leaves : Option Record → Type 0) (rec : Record) (said : Status) → step.turned.rec ≡ Some rec → handed []
+    → EndsPut said → IsFullFor journal.limit (needed_in journal rec) said → LeavesPut leaves rec said
+    → EndsEvent step node boot book before journal handed leaves said
+ends_put step node boot book before journal handed leaves rec (status.DiskFault count) is none ends full left = (none, inl (subst leaves (sym is) left))
+ends_put step node boot book before journal handed leaves rec (status.JournalFull need limit) is none ends full left = (none, left, (rec, is, full))
+ends_put step node boot book before journal handed leaves rec status.OutOfMemory is none ends full left =
+    inr ((0, none), subst leaves (sym is) left)
+ends_put step node boot book before journal handed leaves rec _ is none ends full left = absurd ends

@@ -13,8 +13,8 @@ use Rattle.node_links.specs.Streams.{Takes}
 use Rattle.node_runs.specs.Links.{Reads}
 use Rattle.node_runs.specs.Runs.{Role, Served, Turn, woke, idle, came, begun, passed, kept_through, datagrams_in, readings_in, reading_in}
 use Rattle.node_runs.specs.Serving.{nothing_undone, EndsServing, IsServed, HasServeCause}
-use Rattle.node_runs.specs.Keeping.{KeepsOn, KeepsWith, KeepsServed, done_to}
-use Rattle.node_runs.proofs.Keeping.{now_among, keeps_one_more, stands_last}
+use Rattle.node_runs.specs.Keeping.{KeepsOn, KeepsWith, KeepsNow, KeptInTurn, from_start, then_next, KeepsServed}
+use Rattle.node_runs.proofs.Keeping.{stands_last}
 use Rattle.node_runs.proofs.Sending.{sends_none, sends_join, takes_none, takes_more, reads_none, reads_more}
 use Rattle.node_loop.specs.Turns.{HasPassed, HasEnded, HasCome}
 
@@ -99,20 +99,21 @@ module _ {S : Type 0} (role : Role S) (boot : Boot) (period limit : ℕ) (start 
     -- and what its disk keeps, which was this one at its start, and this one before the pass
     module _ {D : Type 0} (is_told : Bool) (kept : D → Kept) (moment : D → ℕ) (left_since : D → ℕ → List ℕ → Type 0)
         (counts_now : (disk : D) (t : ℕ) (image : List ℕ) → IsTrue is_told → t ≤ moment disk → IsImage (kept disk) image → left_since disk t image)
-        (first disk last : D) (keeps : KeepsOn is_told moment left_since first disk so_far) where
+        (first disk last : D) (keeps : IsTrue is_told → KeptInTurn moment left_since first start.kept so_far s.kept disk) where
       on_disk : (said : Status)
           → HasEnded role boot period limit spent s given given_after sent sent_after losses losses_after read read_after
           (KeepsWith is_told moment left_since disk last s.kept) said
           → (it : IsServed role boot period start limit given_before given_after sent_before sent_after losses_before losses_after unread read_after said)
-          × KeepsServed is_told kept moment left_since first last
+          × KeepsServed is_told kept moment left_since first last start
           (kept_through role boot period given_before start it.to_come it.turns it.posts it.end it.comes) it.end it.undone
       unfolding serves
       on_disk said one =
           let met = one.undone.met in (
             serves (KeepsWith is_told moment left_since disk last s.kept) said one,
             record {
-              each = keeps_one_more is_told kept moment left_since first disk last so_far s.kept (done_to s.kept met) keeps
-                  (now_among role boot period given_before start given come.turns come.posts s come.comes) one.leaves;
+              until = disk;
+              in_turn = keeps;
+              ending = one.leaves;
               last = stands_last is_told kept moment left_since disk last s.kept met
                   (λ image told later is. counts_now last (moment disk) image told later is) one.leaves;
             },
@@ -122,7 +123,7 @@ module _ {S : Type 0} (role : Role S) (boot : Boot) (period limit : ℕ) (start 
           → HasEnded role' boot' period limit spent s given given_after sent sent_after losses losses_after read read_after
           (KeepsWith is_told moment left_since disk last s.kept) said
           → (it : IsServed role boot period start limit given_before given_after sent_before sent_after losses_before losses_after unread read_after said)
-          × KeepsServed is_told kept moment left_since first last
+          × KeepsServed is_told kept moment left_since first last start
           (kept_through role boot period given_before start it.to_come it.turns it.posts it.end it.comes) it.end it.undone
       is_served_on role' boot' r b said one = on_disk said (as_ours (KeepsWith is_told moment left_since disk last s.kept) role' boot' r b said one)
 
@@ -145,10 +146,12 @@ module _ {S : Type 0} (role : Role S) (boot : Boot) (period limit : ℕ) (start 
 
     pub gave_up_on : {D : Type 0} (is_told : Bool) (kept : D → Kept) (moment : D → ℕ) (left_since : D → ℕ → List ℕ → Type 0)
         → ((disk : D) (t : ℕ) (image : List ℕ) → IsTrue is_told → t ≤ moment disk → IsImage (kept disk) image → left_since disk t image)
-        → (first disk last : D) → KeepsOn is_told moment left_since first disk (kept_through role boot period given_before start given come.turns come.posts s come.comes)
+        → (first disk last : D)
+        → (IsTrue is_told → KeptInTurn moment left_since first start.kept (kept_through role boot period given_before start given come.turns come.posts s come.comes)
+        s.kept disk)
         → KeepsWith is_told moment left_since disk last s.kept None
         → (it : IsServed role boot period start limit given_before given sent_before sent losses_before losses unread read status.OutOfMemory)
-        × KeepsServed is_told kept moment left_since first last
+        × KeepsServed is_told kept moment left_since first last start
         (kept_through role boot period given_before start it.to_come it.turns it.posts it.end it.comes) it.end it.undone
     gave_up_on is_told kept moment left_since counts_now first disk last keeps closed =
         on_disk spent given sent losses read s come given sent losses read is_told kept moment left_since counts_now first disk last keeps status.OutOfMemory
@@ -165,23 +168,25 @@ module _ {S : Type 0} (role : Role S) (boot : Boot) (period limit : ℕ) (start 
   abbrev pub HasComeOn : D → D → ℕ → Option (List Datagram) → Option (List Datagram) → ℕ → Option (List ℕ) → Served S → Type 0
   HasComeOn first disk spent given sent losses read s =
       (come : HasCome role boot period start s spent given_before given sent_before sent losses_before losses unread read)
-      × KeepsOn is_told moment left_since first disk (kept_through role boot period given_before start given come.turns come.posts s come.comes)
+      × (IsTrue is_told → KeptInTurn moment left_since first start.kept (kept_through role boot period given_before start given come.turns come.posts s come.comes)
+      s.kept disk)
 
-  pub begins_on_disk : (disk : D) → KeepsOn is_told moment left_since disk disk (start.kept ∷ [])
+  pub begins_on_disk : (disk : D) → (IsTrue is_told → KeepsNow moment left_since disk start.kept)
       → HasComeOn disk disk 0 given_before sent_before losses_before unread start
   unfolding has_begun_serving
-  begins_on_disk disk keeps = (has_begun_serving role boot period limit start given_before sent_before losses_before unread, keeps)
+  begins_on_disk disk here =
+      (has_begun_serving role boot period limit start given_before sent_before losses_before unread, λ told. from_start (here told))
 
   pub comes_on_disk : (first disk next_disk : D) (spent : ℕ) (given sent : Option (List Datagram)) (losses : ℕ) (read : Option (List ℕ)) (s : Served S)
       → HasComeOn first disk spent given sent losses read s
       → (given_after sent_after : Option (List Datagram)) (losses_after : ℕ) (read_after : Option (List ℕ)) (role' : Role S) (boot' : Boot) → role' ≡ role → boot' ≡ boot
       → (next : Served S) (now_spent : ℕ) → HasPassed role' boot' period s next spent now_spent given given_after sent sent_after losses losses_after read read_after
-      → KeepsOn is_told moment left_since disk next_disk (s.kept ∷ next.kept ∷ [])
+      → KeepsOn is_told moment left_since disk next_disk (s.kept ∷ next.kept ∷ []) → (IsTrue is_told → KeepsNow moment left_since next_disk next.kept)
       → HasComeOn first next_disk now_spent given_after sent_after losses_after read_after next
   unfolding comes_on
-  comes_on_disk first disk next_disk spent given sent losses read s (come, keeps) given_after sent_after losses_after read_after role' boot' r b next now_spent one more = (
+  comes_on_disk first disk next_disk spent given sent losses read s (come, keeps) given_after sent_after losses_after read_after role' boot' r b next now_spent one more here = (
     comes_on role boot period limit start given_before sent_before losses_before unread spent given sent losses read s come given_after sent_after losses_after read_after
         role' boot' r b next now_spent one,
-    keeps_one_more is_told kept moment left_since first disk next_disk (kept_through role boot period given_before start given come.turns come.posts s come.comes)
-        s.kept next.kept keeps (now_among role boot period given_before start given come.turns come.posts s come.comes) more,
+    λ told. then_next (kept_through role boot period given_before start given come.turns come.posts s come.comes) s.kept next.kept disk next_disk
+        (keeps told) (more told) (here told),
   )

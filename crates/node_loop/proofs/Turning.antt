@@ -18,7 +18,7 @@ use Rattle.world_spec.specs.World.{Deed, rewrites}
 use Rattle.node_links.specs.declared.link.Datagram.{Datagram}
 use Rattle.node_links.specs.Streams.{Takes}
 use Rattle.node_runs.specs.Links.{Sends, Reads}
-use Rattle.node_runs.specs.Runs.{Role, Served, Turn, Begins, Passes, by_turn, by_own, in_turn, of_itself, meets, event_in, ends_event, posts_in, mails_in, goes_through, mails, step_at, datagrams_in, readings_in}
+use Rattle.node_runs.specs.Runs.{Role, Served, JournalAt, Turn, Begins, Passes, by_turn, by_own, in_turn, of_itself, meets, event_in, ends_event, posts_in, mails_in, goes_through, mails, step_at, datagrams_in, readings_in}
 use Rattle.node_runs.specs.Serving.{nothing_undone, put_of, IsBetween, IsIn, record_in, front_in}
 use Rattle.node_runs.proofs.Sending.{sends_none, takes_none, reads_none}
 use Rattle.node_loop.specs.Events.{EndsEvent}
@@ -108,7 +108,7 @@ module _ {S : Type 0} (role : Role S) (boot : Boot) (period limit spent : ℕ) (
   -- an event that ends the node
   pub has_failed : (leaves : Option Deed → Type 0) (it : IsIn role boot period before old) (said : Status) → length it.turn ≤ 1 → Takes before after (datagrams_in it.turn ++ [])
       → Reads unread read (readings_in it.turn)
-      → EndsEvent (step_at role boot period it.met it.happens) role.node boot it.met.ears.book it.met.count (Sends sent_before sent_after losses_before losses_after) (λ met. leaves (put_of met)) said
+      → EndsEvent (step_at role boot period it.met it.happens) role.node boot it.met.ears.book it.met.count it.met.journal (Sends sent_before sent_after losses_before losses_after) (λ met. leaves (put_of met)) said
       → HasEnded role boot period limit spent old before after sent_before sent_after losses_before losses_after unread read leaves said
   has_failed leaves it (status.DiskFault count) few received reads (none, inl with) = record {
     undone = record nothing_undone { turn = it.turn; met = put_of (record_in role boot period before old it) };
@@ -155,7 +155,7 @@ module _ {S : Type 0} (role : Role S) (boot : Boot) (period limit spent : ℕ) (
   pub has_turn_failed : (leaves : Option Deed → Type 0) (turn : Turn) (left : ℕ) → left ≡ old.due - old.clock → HasBegun left before after unread read turn → IsBetween role boot period old
       → (happens : Event) (said : Status) → Some happens ≡ event_in role boot period old turn
       → EndsEvent (step_at role boot period (meets role boot period old turn) happens) role.node boot (meets role boot period old turn).ears.book
-      (meets role boot period old turn).count (Sends sent_before sent_after losses_before losses_after) (λ met. leaves (put_of met)) said
+      (meets role boot period old turn).count (meets role boot period old turn).journal (Sends sent_before sent_after losses_before losses_after) (λ met. leaves (put_of met)) said
       → HasEnded role boot period limit spent old before after sent_before sent_after losses_before losses_after unread read leaves said
   has_turn_failed leaves turn left e begun between happens said is ends =
       let it : IsIn role boot period before old = record {
@@ -176,12 +176,12 @@ module _ {S : Type 0} (role : Role S) (boot : Boot) (period : ℕ) (handed : Lis
       (subst (λ x. HasActed x boot' met' happens new handed) r is))
 
   pub ends_as : (leaves : Option Record → Type 0) (role' : Role S) (boot' : Boot) (met met' : Served S) (happens : Event) (said : Status) → role' ≡ role → boot' ≡ boot → met' ≡ met
-      → EndsEvent (role'.step met'.kept met'.state met'.clock happens) role'.node boot' met'.ears.book met'.count handed leaves said
-      → EndsEvent (role.step met.kept met.state met.clock happens) role.node boot met.ears.book met.count handed leaves said
+      → EndsEvent (role'.step met'.kept met'.state met'.clock happens) role'.node boot' met'.ears.book met'.count met'.journal handed leaves said
+      → EndsEvent (role.step met.kept met.state met.clock happens) role.node boot met.ears.book met.count met.journal handed leaves said
   ends_as leaves role' boot' met met' happens said r b m is =
-      subst (λ x. EndsEvent (role.step x.kept x.state x.clock happens) role.node boot x.ears.book x.count handed leaves said) m
-      (subst (λ x. EndsEvent (role.step met'.kept met'.state met'.clock happens) role.node x met'.ears.book met'.count handed leaves said) b
-      (subst (λ (x : Role S). EndsEvent (x.step met'.kept met'.state met'.clock happens) x.node boot' met'.ears.book met'.count handed leaves said) r is))
+      subst (λ x. EndsEvent (role.step x.kept x.state x.clock happens) role.node boot x.ears.book x.count x.journal handed leaves said) m
+      (subst (λ x. EndsEvent (role.step met'.kept met'.state met'.clock happens) role.node x met'.ears.book met'.count met'.journal handed leaves said) b
+      (subst (λ (x : Role S). EndsEvent (x.step met'.kept met'.state met'.clock happens) x.node boot' met'.ears.book met'.count met'.journal handed leaves said) r is))
 
 pub map_ok : {A B : Type 0} (P Q : A → Type 0) (r : Result A B) → ((x : A) → P x → Q x) → IfOk r P → IfOk r Q
 map_ok P Q (Ok x) f p = f x p
@@ -196,12 +196,12 @@ map_err P Q (Err e) f p = f e p
 pub sends_from : (b b' after : Option (List Datagram)) (l l' later : ℕ) (ds : List Datagram) → b' ≡ b → l' ≡ l → Sends b' after l' later ds → Sends b after l later ds
 sends_from b b' after l l' later ds e f is = subst (λ o. Sends o after l later ds) e (subst (λ n. Sends b' after n later ds) f is)
 
-pub ends_from : {S : Type 0} (step : Step S) (node : NodeId) (boot : Boot) (book : Book) (count : ℕ) (said : Status)
+pub ends_from : {S : Type 0} (step : Step S) (node : NodeId) (boot : Boot) (book : Book) (count : ℕ) (journal : JournalAt) (said : Status)
     (b b' after : Option (List Datagram)) (l l' later : ℕ) (leaves : Option Record → Type 0) → b' ≡ b → l' ≡ l
-    → EndsEvent step node boot book count (Sends b' after l' later) leaves said → EndsEvent step node boot book count (Sends b after l later) leaves said
-ends_from step node boot book count said b b' after l l' later leaves e f is =
-    subst (λ o. EndsEvent step node boot book count (Sends o after l later) leaves said) e
-    (subst (λ n. EndsEvent step node boot book count (Sends b' after n later) leaves said) f is)
+    → EndsEvent step node boot book count journal (Sends b' after l' later) leaves said → EndsEvent step node boot book count journal (Sends b after l later) leaves said
+ends_from step node boot book count journal said b b' after l l' later leaves e f is =
+    subst (λ o. EndsEvent step node boot book count journal (Sends o after l later) leaves said) e
+    (subst (λ n. EndsEvent step node boot book count journal (Sends b' after n later) leaves said) f is)
 
 pub begun_then : (left : ℕ) (before after then : Option (List Datagram)) (unread read : Option (List ℕ)) (turn : Turn) → then ≡ after
     → HasBegun left before after unread read turn → HasBegun left before then unread read turn
@@ -231,7 +231,7 @@ module _ {S : Type 0} (role : Role S) (boot : Boot) (period limit spent : ℕ) (
   }
 
   pub has_told_failed : (leaves : Option Deed → Type 0) (said : Status)
-      → EndsEvent (role.step old.kept old.state old.clock (event.Deliver msg)) role.node boot old.ears.book old.count (Sends sent_before sent_after losses_before losses_after) (λ met. leaves (put_of met)) said
+      → EndsEvent (role.step old.kept old.state old.clock (event.Deliver msg)) role.node boot old.ears.book old.count old.journal (Sends sent_before sent_after losses_before losses_after) (λ met. leaves (put_of met)) said
       → HasEnded role boot period limit spent old before after sent_before sent_after losses_before losses_after unread unread leaves said
   has_told_failed leaves said ends =
       let it : IsIn role boot period before old = record { happens = event.Deliver msg; met = record old { own = rest }; turn = []; is_met = of_itself msg rest own } in

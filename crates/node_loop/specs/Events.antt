@@ -1,8 +1,8 @@
 -- what an event does to a served node
-use Rattle.std.specs.Prelude.{ℕ, ◌≡◌, ◌<◌, ◌⊎◌, Option, Some, None, List, []}
+use Rattle.std.specs.Prelude.{ℕ, ◌≡◌, ◌⊎◌, Option, Some, None, List, []}
 use Rattle.std.specs.Option.{IfSome}
 use Rattle.std.specs.List.{All}
-use Rattle.xt_base.specs.Faults.{Rose, counted}
+use Rattle.xt_base.specs.Faults.{Rose}
 use Rattle.xt_base.specs.declared.ids.NodeId.{NodeId}
 use Rattle.xt_base.specs.declared.ids.Boot.{Boot}
 use Rattle.xt_messages.specs.declared.message.Msg.{Msg}
@@ -16,7 +16,8 @@ use Rattle.client_rows.specs.Steps.{Step}
 use Rattle.world_spec.specs.NodeSteps.{one_more}
 use Rattle.node_links.specs.declared.link.Datagram.{Datagram}
 use Rattle.node_runs.specs.Hearing.{Book}
-use Rattle.node_runs.specs.Runs.{Extent, grown}
+use Rattle.node_runs.specs.Runs.{JournalAt, grown, needed_in}
+use Rattle.node_runs.specs.Serving.{IsOver}
 use Rattle.node_runs.specs.Posting.{posted, none_posted, HasPosted, HasSentFront}
 
 -- its record may be put after these, and its messages may be sent
@@ -25,11 +26,11 @@ pub record Fits (records : List Record) (turned : Turned) : Type 0 where
   pub messages : All FitsMessage turned.outs
 
 -- The node is in the state of the step, has put its record and sent its messages.
-pub record HasStepped {S : Type 0} (step : Step S) (node : NodeId) (boot : Boot) (book : Book) (before : ℕ) (records : List Record) (extent : Extent)
-    (state : S) (kept : List Record) (taken : Extent) (outs : List Msg) (count : ℕ) (handed : List Datagram → Type 0) : Type 0 where
+pub record HasStepped {S : Type 0} (step : Step S) (node : NodeId) (boot : Boot) (book : Book) (before : ℕ) (records : List Record) (journal : JournalAt)
+    (state : S) (kept : List Record) (stands : JournalAt) (outs : List Msg) (count : ℕ) (handed : List Datagram → Type 0) : Type 0 where
   pub state_is : state ≡ step.state
   pub kept_is : kept ≡ one_more records step.turned.rec
-  pub extent_is : taken ≡ grown extent step.turned.rec
+  pub journal_is : stands ≡ grown journal step.turned.rec
   pub outs_are : outs ≡ step.turned.outs
   pub sent : HasPosted (posted node boot book (none_posted before) step.turned.outs) count handed
 
@@ -48,13 +49,13 @@ TellsDiskCount before after _ = after ≡ before
 -- why a record isn't put
 abbrev pub EndsPut : Status → Type 0
 EndsPut (status.DiskFault count) = Unit {0}
-EndsPut (status.JournalFull need limit) = Rose limit need
+EndsPut (status.JournalFull need limit) = Unit {0}
 EndsPut status.OutOfMemory = Unit {0}
 EndsPut _ = ⊥
 
 -- A record that needs so long a journal has no room in one that may be only so long, where that is why it isn't put.
 abbrev pub IsFullFor : ℕ → ℕ → Status → Type 0
-IsFullFor limit needed (status.JournalFull need most) = (limit < needed) × (need ≡ counted needed) × (most ≡ limit)
+IsFullFor limit needed (status.JournalFull need most) = IsOver limit needed need most
 IsFullFor limit needed _ = Unit {0}
 
 -- What a put leaves that ends the node, where `left` says it of a record that a crash may leave: none where the journal is full.
@@ -64,10 +65,11 @@ LeavesPut left rec _ = left (Some rec)
 
 -- An event that ends the node: nothing of it is sent, but where memory runs out after its record, a front of its messages. And what
 -- it leaves on the disk, where `left` says so of the record that a crash may leave.
-abbrev pub EndsEvent : {S : Type 0} → Step S → NodeId → Boot → Book → ℕ → (List Datagram → Type 0) → (Option Record → Type 0) → Status → Type 0
-EndsEvent step node boot book before handed left (status.DiskFault count) = handed [] × (left step.turned.rec ⊎ left None)
-EndsEvent step node boot book before handed left (status.JournalFull need limit) =
-    handed [] × left None × ((rec : Record) × (step.turned.rec ≡ Some rec) × Rose limit need)
-EndsEvent step node boot book before handed left status.OutOfMemory =
+abbrev pub EndsEvent : {S : Type 0} → Step S → NodeId → Boot → Book → ℕ → JournalAt → (List Datagram → Type 0) → (Option Record → Type 0) → Status
+    → Type 0
+EndsEvent step node boot book before journal handed left (status.DiskFault count) = handed [] × (left step.turned.rec ⊎ left None)
+EndsEvent step node boot book before journal handed left (status.JournalFull need limit) =
+    handed [] × left None × ((rec : Record) × (step.turned.rec ≡ Some rec) × IsOver journal.limit (needed_in journal rec) need limit)
+EndsEvent step node boot book before journal handed left status.OutOfMemory =
     (handed [] × left None) ⊎ (HasSentFront node boot book before step.turned.outs handed × left step.turned.rec)
-EndsEvent step node boot book before handed left _ = ⊥
+EndsEvent step node boot book before journal handed left _ = ⊥

@@ -13,15 +13,15 @@ use Rattle.node_links.specs.declared.link.Datagram.{Datagram}
 use Rattle.node_links.specs.Streams.{Takes}
 use Rattle.node_runs.specs.Links.{Sends, Reads}
 use Rattle.node_runs.specs.Hearing.{Ears}
-use Rattle.node_runs.specs.Runs.{Role, Served, Extent, Turn, woke, idle, came, Begins, Passes, Comes, Rewrites, handles, mails, datagrams_in, readings_in}
+use Rattle.node_runs.specs.Runs.{Role, Served, JournalAt, Turn, woke, idle, came, Begins, Passes, Comes, Rewrites, handles, mails, datagrams_in, readings_in}
 use Rattle.node_runs.specs.Serving.{Undone, EndsServing}
 use Rattle.node_loop.specs.declared.opening.Opening.{Opening}
 use Rattle.node_loop.specs.declared.opening.Opening.TheVariants as opening
 
 -- the node as the loop holds it
-abbrev pub standing : {S : Type 0} → S → List Record → Extent → List Msg → Ears → ℕ → ℕ → ℕ → Bool → Served S
-standing state kept extent own ears clock due count woken =
-    record { state = state; kept = kept; own = own; ears = ears; clock = clock; due = due; count = count; extent = extent; woken = woken }
+abbrev pub standing : {S : Type 0} → S → List Record → JournalAt → List Msg → Ears → ℕ → ℕ → ℕ → Bool → Served S
+standing state kept journal own ears clock due count woken =
+    record { state = state; kept = kept; own = own; ears = ears; clock = clock; due = due; count = count; journal = journal; woken = woken }
 
 -- how a receive went, where so much time was left
 abbrev pub Opened : ℕ → Option (List Datagram) → Option (List Datagram) → List ℕ → Opening → Type 0

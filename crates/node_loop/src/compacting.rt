@@ -31,7 +31,7 @@ pub enum Rewritten<D: Disk> {
 /// Whether the records of an area have grown so much that they are to be rewritten: they take the least number of bytes, and twice what
 /// they took when they were rewritten last.
 pub fn is_due(area: &Area) -> bool
-    ensures { result ≡ is_due (record { length = area.now.length; first = area.now.first }) }
+    ensures { result ≡ is_due area.now }
 {
     if area.length < LEAST_AREA {
         return false;

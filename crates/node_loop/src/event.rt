@@ -5,7 +5,7 @@ ghost use Rattle.xt_messages.specs.declared.status.Status.TheVariants as status;
 ghost use Rattle.xt_protocol.specs.Folds.{fold_of, IsInPlace};
 ghost use Rattle.xt_journal.specs.Access.{limit_of};
 ghost use Rattle.object_store.specs.Access.{journal_of, records_of, disk_of};
-ghost use Rattle.node_loop.specs.Stores.{extent_of};
+ghost use Rattle.node_loop.specs.Stores.{journal_at};
 ghost use Rattle.object_store.specs.Puts.{needed_for};
 ghost use Rattle.node_loop.specs.Events.{HasDiskCause, TellsDiskCount, HasStepped, IsFullFor, EndsEvent, EndsPut, LeavesPut};
 ghost use Rattle.node_runs.specs.Links.{Sends};
@@ -43,7 +43,8 @@ pub fn keep<D: Disk>(alloc: Global, store: Store<D>, rec: &Record) -> Result<Sto
     requires fits { FitsRecord rec.now }
     requires placed { IsInPlace (fold_of (records_of store)) rec.now }
     ensures kept { IfOk result (λ kept. records_of kept ≡ records_of store ++ rec.now ∷ []) }
-    ensures extent { IfOk result (λ kept. extent_of kept ≡ grown (extent_of store) (Some rec.now)) }
+    ensures journal { IfOk result (λ kept.
+        journal_at kept ≡ grown (journal_at store) (Some rec.now)) }
     ensures ends { IfErr result (λ ended. EndsPut ended.status) }
     ensures full { IfErr result (λ ended. IsFullFor (limit_of (journal_of store))
         (needed_for store rec.now) ended.status) }
@@ -109,12 +110,14 @@ pub fn handle<N: Node, L: Link, D: Disk>(
     ensures fits { IfOk result (λ done. All FitsMessage done.outs) }
     ensures stepped { IfOk result (λ done. HasStepped
         ((N.role node.old).step (records_of store) (N.state node.old) now ev.now)
-        sender.old.node sender.old.boot book.now sender.old.count (records_of store) (extent_of store)
-        (N.state node.new) (records_of done.store) (extent_of done.store) done.outs sender.new.count
+        sender.old.node sender.old.boot book.now sender.old.count
+        (records_of store) (journal_at store)
+        (N.state node.new) (records_of done.store) (journal_at done.store)
+        done.outs sender.new.count
         (Sends (L.sent link.old) (L.sent link.new) (L.loss_count link.old) (L.loss_count link.new))) }
     ensures ends { IfErr result (λ ended. EndsEvent
         ((N.role node.old).step (records_of store) (N.state node.old) now ev.now)
-        sender.old.node sender.old.boot book.now sender.old.count
+        sender.old.node sender.old.boot book.now sender.old.count (journal_at store)
         (Sends (L.sent link.old) (L.sent link.new) (L.loss_count link.old) (L.loss_count link.new))
         (KeepsPut D.is_told D.moment D.left_since (disk_of store) ended.disk (records_of store))
         ended.status) }

@@ -6,10 +6,10 @@ ghost use Rattle.node_links.specs.declared.link.Datagram.{Datagram};
 ghost use Rattle.xt_protocol.specs.Forgetting.{rewritten};
 ghost use Rattle.object_store.specs.Access.{records_of, disk_of};
 ghost use Rattle.object_store.specs.Texts.{AreRecords};
-ghost use Rattle.node_loop.specs.Stores.{extent_of};
+ghost use Rattle.node_loop.specs.Stores.{journal_at};
 ghost use Rattle.node_runs.specs.Links.{Sends};
 ghost use Rattle.node_runs.specs.Keeping.{KeepsOn, KeepsPut, KeepsWith};
-ghost use Rattle.node_runs.specs.Runs.{handles, mails, meets, event_in, ends_event, next_due, is_due, Passes};
+ghost use Rattle.node_runs.specs.Runs.{handles, mails, meets, event_in, ends_event, next_due, is_due, area_at, Passes};
 ghost use Rattle.node_loop.specs.Events.{HasDiskCause, TellsDiskCount, EndsEvent};
 ghost use Rattle.node_loop.specs.Turns.{standing, turn_of, IsWithin, HasActed, EndsSettling};
 
@@ -62,15 +62,15 @@ impl<N: Node> Site<N> {
         requires clocks { (period < 2 ^ 62) × (self.old.clock < 2 ^ 62) × (reading < 2 ^ 62) }
         requires within { IsWithin buf.now opening }
         requires home { self.old.sender.node ≡ (N.role self.old.node).node }
-        ensures met { (kept : _) (extent : _) → IfOk result (λ happens.
-            standing (N.state self.new.node) kept extent self.new.own self.new.ears self.new.clock
+        ensures met { (kept : _) (journal : _) → IfOk result (λ happens.
+            standing (N.state self.new.node) kept journal self.new.own self.new.ears self.new.clock
             self.new.due self.new.sender.count self.new.woken
             ≡ meets (N.role self.old.node) self.old.sender.boot period
-            (standing (N.state self.old.node) kept extent self.old.own self.old.ears self.old.clock
+            (standing (N.state self.old.node) kept journal self.old.own self.old.ears self.old.clock
             self.old.due self.old.sender.count self.old.woken) (turn_of buf.now opening reading)) }
-        ensures happens { (kept : _) (extent : _) → IfOk result (λ happens. happens ≡
+        ensures happens { (kept : _) (journal : _) → IfOk result (λ happens. happens ≡
             event_in (N.role self.old.node) self.old.sender.boot period
-            (standing (N.state self.old.node) kept extent self.old.own self.old.ears self.old.clock
+            (standing (N.state self.old.node) kept journal self.old.own self.old.ears self.old.clock
             self.old.due self.old.sender.count self.old.woken) (turn_of buf.now opening reading)) }
         ensures fits { IfOk result (λ happens. IfSome happens FitsEvent) }
         ensures same { (self.new.node ≡ self.old.node) × (self.new.sender ≡ self.old.sender)
@@ -127,14 +127,15 @@ impl<N: Node> Site<N> {
         ensures runs { IfOk result (λ kept. N.runs_on self.new.node (records_of kept)) }
         ensures own { IfOk result (λ kept. All FitsMessage self.new.own) }
         ensures acted { IfOk result (λ kept. HasActed (N.role self.old.node) self.old.sender.boot
-            (standing (N.state self.old.node) (records_of store) (extent_of store)
+            (standing (N.state self.old.node) (records_of store) (journal_at store)
             self.old.own self.old.ears self.old.clock self.old.due self.old.sender.count self.old.woken) happens.now
-            (standing (N.state self.new.node) (records_of kept) (extent_of kept)
+            (standing (N.state self.new.node) (records_of kept) (journal_at kept)
             self.new.own self.new.ears self.new.clock self.new.due self.new.sender.count self.new.woken)
             (Sends (L.sent link.old) (L.sent link.new) (L.loss_count link.old) (L.loss_count link.new))) }
         ensures ends { IfErr result (λ ended. EndsEvent
             ((N.role self.old.node).step (records_of store) (N.state self.old.node) self.old.clock happens.now)
             (N.role self.old.node).node self.old.sender.boot self.old.ears.book self.old.sender.count
+            (journal_at store)
             (Sends (L.sent link.old) (L.sent link.new) (L.loss_count link.old) (L.loss_count link.new))
             (KeepsPut D.is_told D.moment D.left_since (disk_of store) ended.disk (records_of store))
             ended.status) }
@@ -176,12 +177,12 @@ impl<N: Node> Site<N> {
         ensures runs { IfOk result (λ kept. N.runs_on self.new.node (records_of kept)) }
         ensures passed { (period : ℕ) (to_come : Option (List Datagram)) → IfOk result (λ kept.
             Passes (N.role self.old.node) self.old.sender.boot period to_come
-            (standing (N.state self.old.node) (records_of store) (extent_of store)
+            (standing (N.state self.old.node) (records_of store) (journal_at store)
             self.old.own self.old.ears self.old.clock self.old.due self.old.sender.count self.old.woken) [] []
-            (standing (N.state self.new.node) (records_of kept) (extent_of kept)
+            (standing (N.state self.new.node) (records_of kept) (journal_at kept)
             self.new.own self.new.ears self.new.clock self.new.due self.new.sender.count self.new.woken)) }
         ensures ends { (period : ℕ) → IfErr result (λ ended. EndsSettling (N.role self.old.node) self.old.sender.boot period
-            (standing (N.state self.old.node) (records_of store) (extent_of store)
+            (standing (N.state self.old.node) (records_of store) (journal_at store)
             self.old.own self.old.ears self.old.clock self.old.due self.old.sender.count self.old.woken)
             (KeepsWith D.is_told D.moment D.left_since (disk_of store) ended.disk (records_of store))
             ended.status) }
@@ -217,7 +218,7 @@ impl<N: Node> Site<N> {
         keep: &Keep,
     ) -> Result<Store<D>, Ended<D>>
         requires woken { (self.old.own ≡ []) × (self.old.woken ≡ true) }
-        requires due { is_due (extent_of store) ≡ true }
+        requires due { is_due (area_at (journal_at store)) ≡ true }
         requires needs { (N.role self.old.node).keeps (N.state self.old.node) ≡ Some keep.now }
         requires may { AreRecords (rewritten keep.now (records_of store)) }
         requires runs { N.runs_on self.old.node (records_of store) }
@@ -228,12 +229,12 @@ impl<N: Node> Site<N> {
         ensures runs { IfOk result (λ kept. N.runs_on self.new.node (records_of kept)) }
         ensures passed { (period : ℕ) (to_come : Option (List Datagram)) → IfOk result (λ kept.
             Passes (N.role self.old.node) self.old.sender.boot period to_come
-            (standing (N.state self.old.node) (records_of store) (extent_of store)
+            (standing (N.state self.old.node) (records_of store) (journal_at store)
             self.old.own self.old.ears self.old.clock self.old.due self.old.sender.count self.old.woken) [] []
-            (standing (N.state self.new.node) (records_of kept) (extent_of kept)
+            (standing (N.state self.new.node) (records_of kept) (journal_at kept)
             self.new.own self.new.ears self.new.clock self.new.due self.new.sender.count self.new.woken)) }
         ensures ends { (period : ℕ) → IfErr result (λ ended. EndsSettling (N.role self.old.node) self.old.sender.boot period
-            (standing (N.state self.old.node) (records_of store) (extent_of store)
+            (standing (N.state self.old.node) (records_of store) (journal_at store)
             self.old.own self.old.ears self.old.clock self.old.due self.old.sender.count self.old.woken)
             (KeepsWith D.is_told D.moment D.left_since (disk_of store) ended.disk (records_of store))
             ended.status) }

@@ -2,7 +2,7 @@ ghost use Rattle.std.specs.Prelude.{◌≡◌, ◌≤◌, ◌<◌, ◌^◌, ◌+
 ghost use Rattle.std.specs.List.{All};
 ghost use Rattle.xt_messages.specs.Limits.{FitsMessage};
 ghost use Rattle.object_store.specs.Access.{records_of, disk_of};
-ghost use Rattle.node_loop.specs.Stores.{extent_of};
+ghost use Rattle.node_loop.specs.Stores.{journal_at};
 ghost use Rattle.node_runs.specs.Serving.{HasServeCause};
 ghost use Rattle.node_runs.specs.Keeping.{KeepsOn, KeepsWith};
 ghost use Rattle.node_loop.specs.Turns.{standing, HasPassed, HasEnded};
@@ -54,10 +54,10 @@ impl<N: Node> Site<N> {
             × (C.fault_count clock.new ≡ C.fault_count clock.old)) }
         ensures passed { IfOk result (λ kept. HasPassed (N.role self.old.node) self.old.sender.boot
             bounds.period
-            (standing (N.state self.old.node) (records_of store) (extent_of store)
+            (standing (N.state self.old.node) (records_of store) (journal_at store)
             self.old.own self.old.ears self.old.clock self.old.due self.old.sender.count
             self.old.woken)
-            (standing (N.state self.new.node) (records_of kept) (extent_of kept)
+            (standing (N.state self.new.node) (records_of kept) (journal_at kept)
             self.new.own self.new.ears self.new.clock self.new.due self.new.sender.count
             self.new.woken)
             spent (spent + 1)
@@ -66,7 +66,7 @@ impl<N: Node> Site<N> {
             (C.readings clock.old) (C.readings clock.new)) }
         ensures ended { IfErr result (λ ended. HasEnded (N.role self.old.node) self.old.sender.boot
             bounds.period bounds.turns spent
-            (standing (N.state self.old.node) (records_of store) (extent_of store)
+            (standing (N.state self.old.node) (records_of store) (journal_at store)
             self.old.own self.old.ears self.old.clock self.old.due self.old.sender.count
             self.old.woken)
             (L.given link.old) (L.given link.new) (L.sent link.old) (L.sent link.new)

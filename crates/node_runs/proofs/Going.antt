@@ -27,8 +27,8 @@ module _ {S : Type 0} (role : Role S) (boot : Boot) (period : ℕ) (to_come : Op
           → Passes role boot period left s turns posts next → P s → P next
       kept_by_one left s turns posts next (by_turn turn alone rested begins ends) p = each_turn s turn p
       kept_by_one left s turns posts next (by_own msg rest own) p = each_own s msg rest p own
-      kept_by_one left s turns posts next (by_rewriting keep is) p = each_rewriting s keep p is
-      kept_by_one left s turns posts next (by_no_room keep is) p = each_look s p
+      kept_by_one left s turns posts next (by_rewriting keep is room) p = each_rewriting s keep p is
+      kept_by_one left s turns posts next (by_no_room keep need is lacking) p = each_look s p
       kept_by_one left s turns posts next (by_rest is) p = each_look s p
 
       pub kept_by_all : (left : Option (List Datagram)) (turns : List Turn) (posts : List Datagram) (s : Served S)

@@ -2,8 +2,7 @@
 use Rattle.std.proofs.Common.{ℕ, ◌≡◌, ◌≤◌, ◌⊎◌, refl, sym, subst, Bool, Option, Some, None, List, [], ◌∷◌, ◌++◌, inl, inr, ⊎_elim}
 use Rattle.std.specs.Prelude.{IsTrue}
 use Rattle.disk_model.specs.Disk.{Kept, IsImage, LeavesOnly}
-use Rattle.disk_model.proofs.Moments.{begun, joined, weaker}
-use Rattle.xt_base.specs.declared.ids.Boot.{Boot}
+use Rattle.disk_model.proofs.Moments.{begun, weaker}
 use Rattle.xt_messages.specs.declared.record.Record.{Record}
 use Rattle.xt_journal.specs.Append.{IsWithOrWithout}
 use Rattle.xt_journal.specs.Format.{StandsFor, KeepsJournal}
@@ -13,10 +12,8 @@ use Rattle.object_store.specs.Texts.{texts_of}
 use Rattle.object_store.proofs.Reading.{texts-push}
 use Rattle.world_spec.specs.World.{Deed}
 use Rattle.world_spec.specs.NodeSteps.{one_more}
-use Rattle.node_links.specs.declared.link.Datagram.{Datagram}
-use Rattle.node_runs.specs.Runs.{Role, Served, Turn, Comes, begun as at_start, passed, kept_through}
 use Rattle.node_runs.specs.Serving.{put_of}
-use Rattle.node_runs.specs.Keeping.{StandsForOne, KeepsOn, KeepsWith, done_to}
+use Rattle.node_runs.specs.Keeping.{StandsForOne, KeepsOn, KeepsWith, KeepsNow, KeptInTurn, from_start, then_next, done_to}
 
 -- ---- one of some lists
 
@@ -29,27 +26,18 @@ pub one_of_later : (moments more : List (List Record)) (image : List ℕ) → St
 one_of_later [] more image is = is
 one_of_later (records ∷ moments) more image is = inr (one_of_later moments more image is)
 
--- what a node keeps now is among what it kept
-module _ {S : Type 0} (role : Role S) (boot : Boot) (period : ℕ) (to_come : Option (List Datagram)) (start : Served S) where
-  pub now_among : (left : Option (List Datagram)) (turns : List Turn) (posts : List Datagram) (s : Served S) (comes : Comes role boot period to_come start left turns posts s)
-      (image : List ℕ) → StandsFor image (texts_of s.kept) → StandsForOne (kept_through role boot period to_come start left turns posts s comes) image
-  now_among left turns posts s at_start image is = inl is
-  now_among left turns posts s (passed between after turns' more before mailed s' next comes one gives) image is =
-      one_of_later (kept_through role boot period to_come start between turns' before s' comes) (next.kept ∷ []) image (inl is)
-
-  -- and so is what it kept at its start
-  pub start_among : (left : Option (List Datagram)) (turns : List Turn) (posts : List Datagram) (s : Served S) (comes : Comes role boot period to_come start left turns posts s)
-      (image : List ℕ) → StandsFor image (texts_of start.kept) → StandsForOne (kept_through role boot period to_come start left turns posts s comes) image
-  start_among left turns posts s at_start image is = inl is
-  start_among left turns posts s (passed between after turns' more before mailed s' next comes one gives) image is =
-      one_of_first (kept_through role boot period to_come start between turns' before s' comes) (next.kept ∷ []) image (start_among between turns' before s' comes image is)
-
 -- one record more is done to records
 pub put_done : (kept : List Record) (rec : Option Record) → done_to kept (put_of rec) ≡ one_more kept rec
 put_done kept None = refl
 put_done kept (Some rec) = refl
 
 module _ {D : Type 0} (is_told : Bool) (kept : D → Kept) (moment : D → ℕ) (left_since : D → ℕ → List ℕ → Type 0) where
+  -- a crash leaves now what the disk keeps
+  pub keeps_now : (disk : D) (records : List Record) → (IsTrue is_told → KeepsJournal (kept disk) (texts_of records))
+      → ((image : List ℕ) → IsTrue is_told → left_since disk (moment disk) image → IsImage (kept disk) image)
+      → IsTrue is_told → KeepsNow moment left_since disk records
+  keeps_now disk records keeps only told = λ image left. each_stands (kept disk) (texts_of records) image (keeps told) (only image told left)
+
   -- nothing was put
   pub stays : (disk : D) (records : List Record) → (IsTrue is_told → KeepsJournal (kept disk) (texts_of records))
       → ((image : List ℕ) → IsTrue is_told → left_since disk (moment disk) image → IsImage (kept disk) image)
@@ -93,22 +81,6 @@ module _ {D : Type 0} (is_told : Bool) (kept : D → Kept) (moment : D → ℕ) 
       (λ image. StandsFor image (texts_of records) ⊎ StandsFor image (texts_of (records ++ rec ∷ []))) (leaves told)
       (λ image. ⊎_elim (λ was. inl was) (λ is. inr (subst (StandsFor image) (sym (texts-push records rec)) is))))
 
-  -- one after the other
-  pub keeps_more : (before between after : D) (moments more : List (List Record)) → KeepsOn is_told moment left_since before between moments
-      → KeepsOn is_told moment left_since between after more → KeepsOn is_told moment left_since before after (moments ++ more)
-  keeps_more before between after moments more one two told =
-      joined moment left_since before between after (StandsForOne moments) (StandsForOne more) (StandsForOne (moments ++ more)) (one told) (two told)
-      (one_of_first moments more) (one_of_later moments more)
-
-  -- one more change of records that are among those
-  pub keeps_one_more : (before between after : D) (moments : List (List Record)) (now next : List Record) → KeepsOn is_told moment left_since before between moments
-      → ((image : List ℕ) → StandsFor image (texts_of now) → StandsForOne moments image)
-      → KeepsOn is_told moment left_since between after (now ∷ next ∷ []) → KeepsOn is_told moment left_since before after (moments ++ next ∷ [])
-  keeps_one_more before between after moments now next one among two told =
-      joined moment left_since before between after (StandsForOne moments) (StandsForOne (now ∷ next ∷ [])) (StandsForOne (moments ++ next ∷ [])) (one told) (two told)
-      (one_of_first moments (next ∷ []))
-      (λ image. ⊎_elim (λ was. one_of_first moments (next ∷ []) image (among image was)) (λ is. one_of_later moments (next ∷ []) image is))
-
   -- in the end
   pub stands_last : (before after : D) (records : List Record) (met : Option Deed)
       → ((image : List ℕ) → IsTrue is_told → moment before ≤ moment after → IsImage (kept after) image → left_since after (moment before) image)
@@ -117,3 +89,16 @@ module _ {D : Type 0} (is_told : Bool) (kept : D → Kept) (moment : D → ℕ) 
   stands_last before after records met counts keeps told image is =
       let run = keeps told in
       ⊎_elim (λ was. inl was) (λ is_new. ⊎_elim (λ new. inr new) (λ none. absurd none) is_new) (run.each image (counts image told run.later is))
+
+-- ---- one list after the other
+
+module _ {D : Type 0} (moment : D → ℕ) (left_since : D → ℕ → List ℕ → Type 0) where
+  -- with a list before the others
+  pub from_before : (before first : D) (records start : List Record) → KeepsNow moment left_since before records
+      → LeavesOnly moment left_since before first (StandsForOne (records ∷ start ∷ []))
+      → (lists : List (List Record)) (now : List Record) (disk : D) → KeptInTurn moment left_since first start lists now disk
+      → KeptInTurn moment left_since before records (records ∷ lists) now disk
+  from_before before first records start here on lists now disk (from_start kept) =
+      then_next (records ∷ []) records start before first (from_start here) on kept
+  from_before before first records start here on lists now disk (then_next lists' now' next between after run step kept) =
+      then_next (records ∷ lists') now' next between after (from_before before first records start here on lists' now' between run) step kept

@@ -37,10 +37,28 @@ KeepsPut is_told moment left_since before after kept met = KeepsWith is_told mom
 abbrev pub records_with : {S : Type 0} → Served S → Undone → List Record
 records_with s undone = done_to s.kept undone.met
 
--- The disk of a served node, which kept these lists of records one after the other. A crash at any moment of the serving leaves one of
--- them, or those that it was about to keep in the end. In the end it leaves the last of them, or those.
+-- a crash leaves these records now
+abbrev pub KeepsNow : {D : Type 0} → (D → ℕ) → (D → ℕ → List ℕ → Type 0) → D → List Record → Type 0
+KeepsNow moment left_since disk records = (image : List ℕ) → left_since disk (moment disk) image → StandsFor image (texts_of records)
+
+-- A disk kept these lists of records in turn, from its first state on, which kept the start; it keeps the last of them now. On the way from
+-- one to the next a crash leaves one of the two; once the next is kept, it leaves none before it.
+pub data KeptInTurn {D : Type 0} (moment : D → ℕ) (left_since : D → ℕ → List ℕ → Type 0) (first : D) (start : List Record)
+    : List (List Record) → List Record → D → Type 0 where
+  from_start : KeepsNow moment left_since first start → KeptInTurn moment left_since first start (start ∷ []) start first
+  then_next : (lists : List (List Record)) (records next : List Record) (between after : D)
+      → KeptInTurn moment left_since first start lists records between
+      → LeavesOnly moment left_since between after (StandsForOne (records ∷ next ∷ []))
+      → KeepsNow moment left_since after next
+      → KeptInTurn moment left_since first start (lists ++ next ∷ []) next after
+
+-- The disk of a served node, which kept these lists of records in turn, each after the one before, until the node ended. From then on a
+-- crash leaves the last of them, or the records that the node was about to keep in the end; and so it is in the end.
 pub record KeepsServed {D S : Type 0} (is_told : Bool) (kept : D → Kept) (moment : D → ℕ) (left_since : D → ℕ → List ℕ → Type 0)
-    (before after : D) (moments : List (List Record)) (end : Served S) (undone : Undone) : Type 0 where
-  pub each : KeepsOn is_told moment left_since before after (moments ++ records_with end undone ∷ [])
+    (before after : D) (start : Served S) (lists : List (List Record)) (end : Served S) (undone : Undone) : Type 0 where
+  -- the disk as the node left it before what ended it
+  pub until : D
+  pub in_turn : IsTrue is_told → KeptInTurn moment left_since before start.kept lists end.kept until
+  pub ending : KeepsWith is_told moment left_since until after end.kept undone.met
   pub last : IsTrue is_told → (image : List ℕ) → IsImage (kept after) image
       → StandsFor image (texts_of end.kept) ⊎ StandsFor image (texts_of (records_with end undone))

@@ -10,11 +10,13 @@ use Rattle.xt_messages.specs.declared.event.Event.TheVariants as event
 use Rattle.xt_messages.specs.declared.record.KeepBody.{KeepBody}
 use Rattle.xt_messages.specs.declared.record.Record.{Record}
 use Rattle.xt_protocol.specs.Forgetting.{rewritten}
-use Rattle.journal_areas.specs.Format.{records}
 use Rattle.journal_areas.specs.declared.superblock.Superblock.{Superblock}
+use Rattle.journal_areas.specs.declared.site.Area.{Area}
 use Rattle.journal_areas.specs.Areas.{end_in}
-use Rattle.journal_areas.specs.Sites.{area_of, area_size}
-use Rattle.object_store.specs.Texts.{texts_of}
+use Rattle.journal_areas.specs.Sites.{area_of, moved, need_for}
+use Rattle.journal_moves.specs.Answers.{full_need}
+use Rattle.replica_records.specs.RecordText.{record_text}
+use Rattle.object_store.specs.Swaps.{size_of}
 use Rattle.client_rows.specs.Steps.{Step}
 use Rattle.world_spec.specs.NodeSteps.{to_itself, one_more}
 use Rattle.node_links.specs.declared.link.Datagram.{Datagram}
@@ -54,38 +56,51 @@ abbrev pub readings_in : List Turn → List ℕ
 readings_in [] = []
 readings_in (turn ∷ turns) = reading_in turn ∷ readings_in turns
 
--- How many bytes the records take on the disk now, with the gates around them, and how many they took when they were rewritten last; 0
--- where they never were.
-pub record Extent : Type 0 where
-  pub length : ℕ
-  pub first : ℕ
+-- Where the records stand on the disk: in a journal with this superblock, or with none, whose next record goes to this gate, and which
+-- may have so many bytes.
+pub record JournalAt : Type 0 where
+  pub superblock : Option Superblock
+  pub end : ℕ
+  pub limit : ℕ
 
--- those of a journal that ends at this gate, with this superblock or none
-abbrev pub extent_at : Option Superblock → ℕ → Extent
-extent_at super end = record { length = (area_of super end).length; first = (area_of super end).first }
+-- so for a journal of these payloads
+abbrev pub journal_with : Option Superblock → List (List ℕ) → ℕ → JournalAt
+journal_with super payloads limit = record { superblock = super; end = end_in super payloads; limit = limit }
 
--- those of a journal of these payloads
-abbrev pub extent_in : Option Superblock → List (List ℕ) → Extent
-extent_in super payloads = extent_at super (end_in super payloads)
+-- its area that counts
+abbrev pub area_at : JournalAt → Area
+area_at journal = area_of journal.superblock journal.end
 
--- one record more takes its bytes and a gate
-abbrev pub grown : Extent → Option Record → Extent
-grown extent None = extent
-grown extent (Some rec) = record extent { length = extent.length + length (records (texts_of (rec ∷ []))) }
+-- one record more: its payload and its length come after the gate, and then the next gate
+abbrev pub grown : JournalAt → Option Record → JournalAt
+grown journal None = journal
+grown journal (Some rec) = record journal { end = journal.end + (5 + length (record_text rec)) }
 
--- of rewritten records
-abbrev pub fresh : List Record → Extent
-fresh kept = record { length = area_size (texts_of kept); first = area_size (texts_of kept) }
+-- how many bytes the journal needs for a record more
+abbrev pub needed_in : JournalAt → Record → ℕ
+needed_in journal rec = journal.end + (6 + length (record_text rec))
+
+-- these records in an area of their own
+abbrev pub moved_to : JournalAt → List Record → JournalAt
+moved_to journal records = record journal {
+  superblock = Some (moved journal.superblock journal.end (size_of records));
+  end = need_for journal.superblock journal.end (size_of records) - 1;
+}
+
+-- What the journal would need that has no room for such an area, or its limit, where the numbers of areas are spent; None where it has room.
+abbrev pub lacks : JournalAt → List Record → Option ℕ
+lacks journal records = full_need journal.superblock journal.end (size_of records) journal.limit
 
 -- the bytes from which on records are rewritten that never were
 abbrev pub least_area : ℕ
 least_area = 1048576
 
--- the records have grown so much that they are to be rewritten
-abbrev pub is_due : Extent → Bool
-is_due extent = nat_le (least_area + 2 * extent.first) extent.length
+-- The records of an area have grown so much that they are to be rewritten: they take the least number of bytes, and twice what they took
+-- when they were rewritten last, which is 0 where they never were.
+abbrev pub is_due : Area → Bool
+is_due area = nat_le (least_area + 2 * area.first) area.length
 
--- A served node: its state, what it keeps, and how much that takes; its messages to itself that it hasn't handled, what it keeps of its
+-- A served node: its state, what it keeps, and where that stands; its messages to itself that it hasn't handled, what it keeps of its
 -- link, the clock that it used last, when its next Wake is due, how many messages it posted; and whether a Wake has come, after which it
 -- hasn't seen yet whether its records are to be rewritten.
 pub record Served (S : Type 0) : Type 0 where
@@ -96,7 +111,7 @@ pub record Served (S : Type 0) : Type 0 where
   pub clock : ℕ
   pub due : ℕ
   pub count : ℕ
-  pub extent : Extent
+  pub journal : JournalAt
   pub woken : Bool
 
 -- Wakes stand on a grid: the next one is due a period after this one was, or, where that has passed, a period after now.
@@ -129,7 +144,7 @@ module _ {S : Type 0} (role : Role S) (boot : Boot) (period : ℕ) where
     kept = one_more s.kept step.turned.rec;
     own = s.own ++ to_itself role.node step.turned.outs;
     count = (posts s step).count;
-    extent = grown s.extent step.turned.rec;
+    journal = grown s.journal step.turned.rec;
   }
 
   -- an event is handled
@@ -186,19 +201,19 @@ module _ {S : Type 0} (role : Role S) (boot : Boot) (period : ℕ) where
   -- they are, with these bodies
   pub record Rewrites (s : Served S) (keep : List KeepBody) : Type 0 where
     pub woken : HasWoken s
-    pub due : is_due s.extent ≡ true
+    pub due : is_due (area_at s.journal) ≡ true
     pub needs : role.keeps s.state ≡ Some keep
 
   -- they aren't: they haven't grown enough, or the node never rewrites
   pub record Rests (s : Served S) : Type 0 where
     pub woken : HasWoken s
-    pub why : (is_due s.extent ≡ false) ⊎ (role.keeps s.state ≡ None)
+    pub why : (is_due (area_at s.journal) ≡ false) ⊎ (role.keeps s.state ≡ None)
 
   abbrev pub rewrites_with : Served S → List KeepBody → Served S
   rewrites_with s keep = record s {
     state = role.without keep s.state;
     kept = rewritten keep s.kept;
-    extent = fresh (rewritten keep s.kept);
+    journal = moved_to s.journal (rewritten keep s.kept);
     woken = false;
   }
 
@@ -206,14 +221,16 @@ module _ {S : Type 0} (role : Role S) (boot : Boot) (period : ℕ) where
 
   -- One turn, or one message of the node to itself, and what it posts. Messages to itself come before the next turn, first in
   -- first out, at the clock of the turn that they follow. After a Wake, once none is left, the records are rewritten where they have
-  -- grown so much and the journal has room; where it has none, all stays. Nothing is posted then.
+  -- grown so much and the journal has room for them; only where it lacks room all stays. Nothing is posted then.
   pub data Passes (to_come : Option (List Datagram)) (s : Served S) : List Turn → List Datagram → Served S → Type 0 where
     by_turn : (turn : Turn) → s.own ≡ [] → s.woken ≡ false → Begins to_come (s.due - s.clock) turn → ends_event (event_in s turn) ≡ false
         → Passes to_come s (turn ∷ []) (posts_in s turn) (takes s turn)
     by_own : (msg : Msg) (rest : List Msg) → s.own ≡ msg ∷ rest
         → Passes to_come s [] (mails (record s { own = rest }) (event.Deliver msg)) (handles (record s { own = rest }) (event.Deliver msg))
-    by_rewriting : (keep : List KeepBody) → Rewrites s keep → Passes to_come s [] [] (rewrites_with s keep)
-    by_no_room : (keep : List KeepBody) → Rewrites s keep → Passes to_come s [] [] (record s { woken = false })
+    by_rewriting : (keep : List KeepBody) → Rewrites s keep → lacks s.journal (rewritten keep s.kept) ≡ None
+        → Passes to_come s [] [] (rewrites_with s keep)
+    by_no_room : (keep : List KeepBody) (need : ℕ) → Rewrites s keep → lacks s.journal (rewritten keep s.kept) ≡ Some need
+        → Passes to_come s [] [] (record s { woken = false })
     by_rest : Rests s → Passes to_come s [] [] (record s { woken = false })
 
   -- The node has come so far from its start by these turns, and posted these datagrams; and what is to come then.

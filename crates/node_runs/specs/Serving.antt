@@ -6,13 +6,13 @@ use Rattle.xt_messages.specs.declared.record.KeepBody.{KeepBody}
 use Rattle.xt_messages.specs.declared.record.Record.{Record}
 use Rattle.xt_messages.specs.declared.status.Status.{Status}
 use Rattle.xt_messages.specs.declared.status.Status.TheVariants as status
-use Rattle.xt_base.specs.Faults.{Rose}
+use Rattle.xt_base.specs.Faults.{Rose, counted}
 use Rattle.world_spec.specs.World.{Deed, puts, rewrites}
 use Rattle.node_links.specs.declared.link.Datagram.{Datagram}
 use Rattle.node_links.specs.Streams.{Takes}
 use Rattle.node_runs.specs.Links.{Sends, Reads}
 use Rattle.node_runs.specs.Posting.{posted, none_posted}
-use Rattle.node_runs.specs.Runs.{Role, Turn, Served, Begins, Comes, Meets, Rewrites, event_in, ends_event, step_at, datagrams_in, readings_in}
+use Rattle.node_runs.specs.Runs.{Role, Turn, Served, Begins, Comes, Meets, Rewrites, needed_in, event_in, ends_event, step_at, datagrams_in, readings_in}
 
 -- What a job left undone: the turn that it was in; a datagram that was received, where the clock failed after it; what it was doing to
 -- its records, if that may be on the disk: the record of the event that it was in was put, or they were rewritten; and what it posted of
@@ -30,6 +30,10 @@ nothing_undone = record { turn = []; unread = []; met = None; more = [] }
 abbrev pub put_of : Option Record → Option Deed
 put_of None = None
 put_of (Some rec) = Some (puts rec)
+
+-- So many bytes pass a limit, and both are reported.
+abbrev pub IsOver : ℕ → ℕ → ℕ → ℕ → Type 0
+IsOver limit needed need most = (limit < needed) × (need ≡ counted needed) × (most ≡ limit)
 
 -- of an event nothing was posted, and nothing was done to the records on the disk
 abbrev pub IsUntouched : Undone → Type 0
@@ -87,10 +91,10 @@ module _ {S : Type 0} (role : Role S) (boot : Boot) (period : ℕ) where
       × ((turn : Turn) × Begins to_come (s.due - s.clock) turn × (undone ≡ record nothing_undone { unread = datagrams_in (turn ∷ []) }))
   -- the disk failed in an event, or as the records were rewritten
   EndsServing limit spent to_come s undone (status.DiskFault count) = FailsInEvent to_come s undone ⊎ FailsInRewriting s undone
-  -- the record of an event has no room
+  -- the record of an event has no room: the journal would need more bytes than it may have
   EndsServing limit spent to_come s undone (status.JournalFull need most) =
       (it : IsIn to_come s) × (undone.turn ≡ it.turn) × IsUntouched undone
-      × ((rec : Record) × (record_in to_come s it ≡ Some rec) × Rose most need)
+      × ((rec : Record) × (record_in to_come s it ≡ Some rec) × IsOver it.met.journal.limit (needed_in it.met.journal rec) need most)
   -- Memory ran out: before the record of an event was put or the records were rewritten; or as that record was put or after it, with a
   -- front of its messages posted; or as the records were rewritten.
   EndsServing limit spent to_come s undone status.OutOfMemory =

@@ -11,5 +11,5 @@ use Rattle.store_compact.specs.Rewriting.{HeadsNameThem, StayKept}
 pub may_compact : HeadsNameThem → StayKept → (records : List Record) (keep : List KeepBody) → AreRecords records → keep ≡ heads_of (fold_of records) → AreRecords (rewritten keep records)
 may_compact heads_name_them stay_kept records keep are is =
     let named = heads_of (fold_of records) in
-    let made = stay_kept named records (record { limits = are.fit; places = are.placed }) (heads_name_them records are.placed) in
-    subst (λ (k : List KeepBody). AreRecords (rewritten k records)) (sym is) (record { fit = made.limits; placed = made.places })
+    let made = stay_kept named records are (heads_name_them records are.placed) in
+    subst (λ (k : List KeepBody). AreRecords (rewritten k records)) (sym is) made

@@ -218,8 +218,8 @@ module _ (keep : List KeepBody) (records : List Record) (all : AllByRecursion Fi
 
 pub stay_kept : StayKept
 stay_kept keep records are named =
-    let all = recursion_from_All FitsRecord records are.limits in
+    let all = recursion_from_All FitsRecord records are.fit in
     record {
-      limits = limits_then keep records all (folds_fit records all are.places);
-      places = places.there keep records named;
+      fit = limits_then keep records all (folds_fit records all are.placed);
+      placed = places.there keep records named;
     }

@@ -10,7 +10,7 @@ use std::alloc::{AllocError, Global};
 use xt_base::{Copies, FileId, Octets, OutOfMemory};
 use xt_messages::{FileRow, Keep, Location, ObjectVersion, Record};
 
-/// The bytes that were put last as this body of the file. They are empty where no record put it, which comes of no body that is held.
+/// The bytes that were put last as this body of the file. They are empty where no record put it, which can't happen to a body that is held.
 fn body(
     alloc: Global,
     log: &RecordLog,
@@ -23,7 +23,8 @@ fn body(
     match log.body(alloc, file, version.object, &version.version) {
         Ok(bytes) => Ok(bytes),
         Err(BodyErr::NoSuchVersion) => Ok(Octets::new(alloc)),
-        Err(BodyErr::Failed { .. } | BodyErr::OutOfMemory) => Err(AllocError),
+        Err(BodyErr::Failed { .. }) => unreachable!(),
+        Err(BodyErr::OutOfMemory) => Err(AllocError),
     }
 }
 

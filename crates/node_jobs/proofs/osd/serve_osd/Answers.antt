@@ -27,13 +27,13 @@ returns-in-Err-clause-job g c =
 pub returns-in_default-started-clause-job : goal.returns-in_default-started-clause-job
 returns-in_default-started-clause-job g c =
     ended_early (not_started (λ disk image told left. g.met.D.Disk.only_now disk image told left) _ _ _ _ c.in-Ok-get_ready.ready.store _ _ _
-    (says_so _ _ _ _ _ (c.as_bytes.ensures.value ∙ c.in-Ok-ready_text.ensures.text) _ _ _ _ c.in-Ok-get_ready.ensures.ready) c.close.ensures)
+    (says_so _ _ _ _ _ (c.as_bytes.ensures.value ∙ c.in-Ok-ready_text.ensures.text) _ _ _ _ _ c.in-Ok-get_ready.ensures.ready) c.close.ensures)
 
 pub returns-clause-job : goal.returns-clause-job
 returns-clause-job g c =
     let told = osd_told _ _ _ _ _ _ _ c.in-Ok-started.ensures c.records.ensures in
     has_done _ _ _ _ _ _ _ _ _ _
-    (says_so _ _ _ _ _ (c.as_bytes.ensures.value ∙ c.in-Ok-ready_text.ensures.text) _ _ _ _ c.in-Ok-get_ready.ensures.ready) _ _ _ _ _ _
+    (says_so _ _ _ _ _ (c.as_bytes.ensures.value ∙ c.in-Ok-ready_text.ensures.text) _ _ _ _ _ c.in-Ok-get_ready.ensures.ready) _ _ _ _ _ _
     (ap (λ (v : OsdView). osd_role v.state.started.node v.key) told) (ap (λ (v : OsdView). v.state) told)
     c.new.ensures c.in-Ok-ears_with.ensures c.period_of-period.ensures.value refl refl c.serve.ensures.keeps c.serve.ensures.disk_cause
 

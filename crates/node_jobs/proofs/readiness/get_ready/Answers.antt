@@ -1,9 +1,9 @@
-use Rattle.std.proofs.Common.{ap, ◌∙◌, refl, subst, sym}
+use Rattle.std.proofs.Common.{ap, ◌∙◌, refl, subst}
 use Rattle.xt_messages.specs.Limits.{FitsBoot}
 use Rattle.object_store.specs.Access.{disk_of, records_of}
 use Rattle.node_loop.proofs.Coming.{cause_from}
 use Rattle.node_jobs.specs.Jobs.{unbooted, unready}
-use Rattle.node_jobs.proofs.Disks.{closed_from, comes_on, medium_of, take_in, unbooted_from}
+use Rattle.node_jobs.proofs.Disks.{closed_from, medium_of, room_at, stand_at, unbooted_from}
 use Rattle.node_jobs.proofs.readiness.get_ready.Goals as goal
 
 pub returns-in-Err-clause-cause : goal.returns-in-Err-clause-cause
@@ -33,12 +33,14 @@ returns-in-Ok-ready-clause-ready g c =
     record {
       records = records_of old;
       are = opened.loads.are;
-      take = take_in c.args.disk c.args.serving.now.settings.limit old new c.in-Ok-booted.booted.1 opened.loads boots;
+      stand = stand_at c.args.disk c.args.serving.now.settings.limit old new c.in-Ok-booted.booted.1 opened.loads boots;
+      room = room_at c.args.disk c.args.serving.now.settings.limit old new c.in-Ok-booted.booted.1 opened.loads boots;
       fits = subst FitsBoot boots.boot_is boots.fits;
       all_are = boots.records;
       boot_is = boots.boot_is;
-      comes = comes_on (medium_of g.D.Disk) c.args.disk (disk_of old) (disk_of new) (records_of old) (records_of new) opened.loads.comes boots.keeps
-          boots.faults;
+      loaded = disk_of old;
+      comes = opened.loads.comes;
+      comes_to = boots.comes_to;
       silent = record { given = opened.given; sent = opened.sent.0; losses = opened.sent.1 };
       reads = c.in-Ok-ready.ensures.read;
       told = c.in-Ok-ready.ensures.told;
@@ -51,17 +53,16 @@ returns-in-Err-ready-clause-ends g c =
     let boots = c.in-Ok-booted.ensures.boots in
     let old = c.in-Ok.store in
     let new = c.in-Ok-booted.booted.0 in
-    let comes = comes_on (medium_of D) c.args.disk (disk_of old) (disk_of new) (records_of old) (records_of new) opened.loads.comes boots.keeps
-    boots.faults in
+    let comes = opened.loads.comes in
     unready (record {
       records = records_of old;
       are = opened.loads.are;
       fits = subst FitsBoot boots.boot_is boots.fits;
       silent = record { given = opened.given; sent = opened.sent.0; losses = opened.sent.1 };
       why = c.in-Err-ready.ensures.ends;
-      faults = ap D.fault_count c.close.ensures ∙ comes.faults;
-      keeps = closed_from (λ disk image told left. g.met.D.Disk.only_now disk image told left) c.args.disk c.close.result new (records_of old) comes boots.records
-          c.close.ensures;
+      faults = ap D.fault_count c.close.ensures ∙ boots.comes_to.faults ∙ comes.faults;
+      keeps = closed_from (λ disk image told left. g.met.D.Disk.only_now disk image told left) c.args.disk (disk_of old) c.close.result new (records_of old) comes
+          boots.comes_to boots.records c.close.ensures;
     })
 
 pub returns-in-Err-ready-clause-cause : goal.returns-in-Err-ready-clause-cause

@@ -1,17 +1,14 @@
-use Rattle.std.proofs.Common.{sym, subst, ap, [], ◌∷◌}
-use Rattle.journal_areas.specs.declared.site.Area.{Area}
+use Rattle.std.proofs.Common.{sym, subst, [], ◌∷◌}
 use Rattle.xt_protocol.specs.Forgetting.{rewritten}
 use Rattle.object_store.specs.Access.{records_of, disk_of}
 use Rattle.node_runs.specs.Keeping.{KeepsOn}
-use Rattle.node_runs.specs.Runs.{Extent, extent_at}
 use Rattle.node_runs.proofs.Keeping.{changes_one, stays_so}
 use Rattle.node_loop.proofs.compacting.rewrite.Goals as goal
 
 pub returns-in-Ok-clause-made : goal.returns-in-Ok-clause-made
 returns-in-Ok-clause-made g c =
     let end = c.in-Ok.ensures.end in
-    let taken : Area → Extent = λ a. record { length = a.length; first = a.first } in
-    (end.records, ap taken end.area)
+    (end.records, (λ i. record { superblock = end.superblock i; end = end.place i; limit = end.limit i }), end.room)
 
 pub returns-in-Ok-clause-keeps : goal.returns-in-Ok-clause-keeps
 returns-in-Ok-clause-keeps g c =
@@ -24,7 +21,7 @@ returns-in-Ok-clause-keeps g c =
 pub returns-in-Err-Full-clause-made : goal.returns-in-Err-Full-clause-made
 returns-in-Err-Full-clause-made g c =
     let end = (rw c.in-Err-Full.field-0-is at c.in-Err-Full.ensures).end in
-    (end.records, λ i. extent_at (end.superblock i) (end.place i))
+    (end.records, (λ i. record { superblock = end.superblock i; end = end.place i; limit = end.limit i }), (_, end.needed))
 
 pub returns-in-Err-Full-clause-keeps : goal.returns-in-Err-Full-clause-keeps
 returns-in-Err-Full-clause-keeps g c =

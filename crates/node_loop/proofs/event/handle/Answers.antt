@@ -8,6 +8,7 @@ use Rattle.node_runs.specs.Keeping.{KeepsOn, KeepsPut}
 use Rattle.node_runs.specs.Serving.{put_of}
 use Rattle.xt_messages.specs.declared.status.Status.{Status}
 use Rattle.node_loop.specs.Events.{EndsEvent}
+use Rattle.node_loop.specs.Stores.{journal_at}
 use Rattle.node_loop.proofs.Sent.{nothing_sent}
 use Rattle.node_loop.proofs.Acting.{ends_put}
 use Rattle.node_loop.proofs.event.handle.Goals.{in-None, in-Some+in-Ok-keep}
@@ -21,9 +22,9 @@ returns-in-Err-clause-ends g c =
     let losses = g.L.Link.loss_count c.args.link.now in
     let step = (g.N.Node.role node).step (records_of c.args.store) (g.N.Node.state node) c.args.now c.args.ev.now in
     let kept : step.turned.rec ≡ Some c.in-Some.rec.now = search rules in
-    ends_put step s.node s.boot c.args.book.now s.count (Sends sent sent losses losses)
+    ends_put step s.node s.boot c.args.book.now s.count (journal_at c.args.store) (Sends sent sent losses losses)
     (KeepsPut g.D.Disk.is_told g.D.Disk.moment g.D.Disk.left_since (disk_of c.args.store) c.in-Err.ended.disk (records_of c.args.store)) c.in-Some.rec.now c.in-Err.ended.status kept
-    (nothing_sent sent losses) c.in-Err.ensures.ends c.in-Err.ensures.leaves
+    (nothing_sent sent losses) c.in-Err.ensures.ends c.in-Err.ensures.full c.in-Err.ensures.leaves
 
 pub returns-in-Err-OutOfMemory-clause-ends : goal.returns-in-Err-OutOfMemory-clause-ends
 returns-in-Err-OutOfMemory-clause-ends g c =
@@ -44,7 +45,7 @@ returns-in-Err-BodyFault-clause-ends g c =
     let sent = g.L.Link.sent c.args.link.now in
     let losses = g.L.Link.loss_count c.args.link.now in
     let step = (g.N.Node.role node).step (records_of store) (g.N.Node.state node) c.args.now c.args.ev.now in
-    subst (λ (said : Status). EndsEvent step s.node s.boot c.args.book.now s.count (Sends sent sent losses losses)
+    subst (λ (said : Status). EndsEvent step s.node s.boot c.args.book.now s.count (journal_at store) (Sends sent sent losses losses)
     (KeepsPut D.is_told D.moment D.left_since (disk_of store) c.unread.result.disk (records_of store)) said)
     (sym c.unread.ensures.status) (
       nothing_sent sent losses,

@@ -1,9 +1,8 @@
 use Rattle.std.proofs.Common.{None, sym, ap, subst, ◌∙◌, ◌≡◌, ◌++◌, ◌∷◌, []}
 use Rattle.xt_journal.specs.Access as journal
-use Rattle.object_store.specs.Access.{journal_of, records_of, disk_of}
+use Rattle.object_store.specs.Access.{records_of, disk_of}
 use Rattle.node_runs.specs.Keeping.{KeepsOn}
 use Rattle.node_runs.proofs.Keeping.{stays_closed, puts_one}
-use Rattle.node_loop.proofs.Settling.{extent_put}
 use Rattle.node_loop.proofs.event.keep.Goals as goal
 
 pub returns-in-Ok-clause-keeps : goal.returns-in-Ok-clause-keeps
@@ -37,6 +36,7 @@ returns-in-Err-OutOfMemory-clause-leaves g c =
     subst (λ disk. KeepsOn D.is_told D.moment D.left_since (disk_of old) disk (records_of old ∷ (records_of old ++ c.args.rec.now ∷ []) ∷ [])) (sym c.close-in-Err-OutOfMemory.ensures)
     (puts_one D.is_told D.kept D.moment D.left_since (disk_of old) (disk_of c.in-Err-OutOfMemory.store) (records_of old) c.args.rec.now facts.any_moment)
 
-pub returns-in-Ok-clause-extent : goal.returns-in-Ok-clause-extent
-returns-in-Ok-clause-extent g c =
-    extent_put _ _ _ _ c.args.rec.now (journal_of c.args.store).located c.in-Ok.ensures.end.superblock c.in-Ok.ensures.end.place
+pub returns-in-Ok-clause-journal : goal.returns-in-Ok-clause-journal
+returns-in-Ok-clause-journal g c =
+    let end = c.in-Ok.ensures.end in
+    λ i. record { superblock = end.superblock i; end = end.place i; limit = end.limit i }

@@ -1,7 +1,7 @@
 use Rattle.std.proofs.Common.{None, arith, refl, sym, ap, ◌∙◌}
 use Rattle.object_store.specs.Access.{records_of, disk_of}
-use Rattle.node_runs.proofs.Keeping.{stays, stays_closed}
-use Rattle.node_loop.specs.Stores.{extent_of}
+use Rattle.node_runs.proofs.Keeping.{keeps_now, stays_closed}
+use Rattle.node_loop.specs.Stores.{journal_at}
 use Rattle.node_loop.specs.Turns.{standing}
 use Rattle.node_loop.proofs.Counting.{cause_since}
 use Rattle.node_loop.proofs.Coming.{begins_on_disk, comes_on_disk, is_served, is_served_on, gave_up, gave_up_on, cause_from}
@@ -12,7 +12,7 @@ loop-init g c =
     let D = g.D.Disk in
     let store = c.args.store in
     let s = c.args.site.now in
-    let start = standing (g.N.Node.state s.node) (records_of c.args.store) (extent_of c.args.store) s.own s.ears s.clock s.due s.sender.count s.woken in (
+    let start = standing (g.N.Node.state s.node) (records_of c.args.store) (journal_at c.args.store) s.own s.ears s.clock s.due s.sender.count s.woken in (
       refl,
       refl,
       refl,
@@ -24,7 +24,7 @@ loop-init g c =
       refl,
       refl,
       begins_on_disk (g.N.Node.role s.node) s.sender.boot c.args.bounds.period c.args.bounds.turns start _ _ _ _ D.is_told D.kept D.moment D.left_since (disk_of store)
-          (stays D.is_told D.kept D.moment D.left_since (disk_of store) (records_of store) store.keeps
+          (keeps_now D.is_told D.kept D.moment D.left_since (disk_of store) (records_of store) store.keeps
           (λ image told left. g.met.D.Disk.only_now (disk_of store) image told left)),
     )
 
@@ -46,7 +46,7 @@ pass-requires-clause-runs g c = c.loop.invariant.5
 pub returns-in-Err-clause-served : goal.returns-in-Err-clause-served
 returns-in-Err-clause-served g c =
     let s = c.args.site.now in
-    let start = standing (g.N.Node.state s.node) (records_of c.args.store) (extent_of c.args.store) s.own s.ears s.clock s.due s.sender.count s.woken in
+    let start = standing (g.N.Node.state s.node) (records_of c.args.store) (journal_at c.args.store) s.own s.ears s.clock s.due s.sender.count s.woken in
     is_served (g.N.Node.role s.node) s.sender.boot c.args.bounds.period c.args.bounds.turns start _ _ _ _ _ _ _ _ _ _
     c.loop.invariant.10.0 _ _ _ _ _ (g.N.Node.role c.loop.site.node) c.loop.site.sender.boot c.loop.invariant.0 c.loop.invariant.1 _ c.in-Err.ensures.ended
 
@@ -57,7 +57,7 @@ pub loop-preserved : goal.loop-preserved
 loop-preserved g c =
     let D = g.D.Disk in
     let s = c.args.site.now in
-    let start = standing (g.N.Node.state s.node) (records_of c.args.store) (extent_of c.args.store) s.own s.ears s.clock s.due s.sender.count s.woken in
+    let start = standing (g.N.Node.state s.node) (records_of c.args.store) (journal_at c.args.store) s.own s.ears s.clock s.due s.sender.count s.woken in
     let inv = c.loop.invariant in
     let e = c.in-Ok.ensures in (
       e.same.2 ∙ inv.0,
@@ -72,7 +72,9 @@ loop-preserved g c =
       e.disk ∙ inv.9,
       comes_on_disk (g.N.Node.role s.node) s.sender.boot c.args.bounds.period c.args.bounds.turns start _ _ _ _
           D.is_told D.kept D.moment D.left_since (disk_of c.args.store) (disk_of c.loop.store) _ _ _ _ _ _ _ inv.10
-          _ _ _ _ (g.N.Node.role c.loop.site.node) c.loop.site.sender.boot inv.0 inv.1 _ _ e.passed e.keeps,
+          _ _ _ _ (g.N.Node.role c.loop.site.node) c.loop.site.sender.boot inv.0 inv.1 _ _ e.passed e.keeps
+          (keeps_now D.is_told D.kept D.moment D.left_since (disk_of c.in-Ok.kept) (records_of c.in-Ok.kept) c.in-Ok.kept.keeps
+          (λ image told left. g.met.D.Disk.only_now (disk_of c.in-Ok.kept) image told left)),
     )
 
 pub returns-in-Err-clause-disk_cause : goal.returns-in-Err-clause-disk_cause
@@ -84,7 +86,7 @@ returns-clause-disk_cause g c = ap g.D.Disk.fault_count c.close.ensures ∙ c.lo
 pub returns-clause-served : goal.returns-clause-served
 returns-clause-served g c =
     let s = c.args.site.now in
-    let start = standing (g.N.Node.state s.node) (records_of c.args.store) (extent_of c.args.store) s.own s.ears s.clock s.due s.sender.count s.woken in
+    let start = standing (g.N.Node.state s.node) (records_of c.args.store) (journal_at c.args.store) s.own s.ears s.clock s.due s.sender.count s.woken in
     gave_up (g.N.Node.role s.node) s.sender.boot c.args.bounds.period c.args.bounds.turns start _ _ _ _ _ _ _ _ _ _ c.loop.invariant.10.0
 
 pub returns-clause-cause : goal.returns-clause-cause
@@ -94,7 +96,7 @@ pub returns-in-Err-clause-keeps : goal.returns-in-Err-clause-keeps
 returns-in-Err-clause-keeps g c =
     let D = g.D.Disk in
     let s = c.args.site.now in
-    let start = standing (g.N.Node.state s.node) (records_of c.args.store) (extent_of c.args.store) s.own s.ears s.clock s.due s.sender.count s.woken in
+    let start = standing (g.N.Node.state s.node) (records_of c.args.store) (journal_at c.args.store) s.own s.ears s.clock s.due s.sender.count s.woken in
     let inv = c.loop.invariant in
     is_served_on (g.N.Node.role s.node) s.sender.boot c.args.bounds.period c.args.bounds.turns start _ _ _ _ _ _ _ _ _ _ inv.10.0 _ _ _ _
     D.is_told D.kept D.moment D.left_since g.met.D.Disk.counts_now (disk_of c.args.store) (disk_of c.loop.store) _ inv.10.1
@@ -105,7 +107,7 @@ returns-clause-keeps g c =
     let D = g.D.Disk in
     let store = c.loop.store in
     let s = c.args.site.now in
-    let start = standing (g.N.Node.state s.node) (records_of c.args.store) (extent_of c.args.store) s.own s.ears s.clock s.due s.sender.count s.woken in
+    let start = standing (g.N.Node.state s.node) (records_of c.args.store) (journal_at c.args.store) s.own s.ears s.clock s.due s.sender.count s.woken in
     let inv = c.loop.invariant in
     gave_up_on (g.N.Node.role s.node) s.sender.boot c.args.bounds.period c.args.bounds.turns start _ _ _ _ _ _ _ _ _ _ inv.10.0
     D.is_told D.kept D.moment D.left_since g.met.D.Disk.counts_now (disk_of c.args.store) (disk_of store) c.close.result inv.10.1

@@ -1,6 +1,6 @@
 use Rattle.std.proofs.Common.{None, refl, sym, ◌∙◌, ◌≡◌}
 use Rattle.object_store.specs.Access.{records_of, disk_of}
-use Rattle.node_loop.specs.Stores.{extent_of}
+use Rattle.node_loop.specs.Stores.{journal_at}
 use Rattle.node_runs.specs.Keeping.{KeepsWith}
 use Rattle.node_runs.specs.Serving.{nothing_undone}
 use Rattle.node_runs.proofs.Sending.{takes_none, reads_none, sends_none}
@@ -19,7 +19,7 @@ act-requires-clause-own g c = rest_fit c.args.self.now.own c.take.new.self c.in-
 pub returns-in-Some-clause-passed : goal.returns-in-Some-clause-passed
 returns-in-Some-clause-passed g c =
     let s = c.args.self.now in
-    let old = standing (g.N.Node.state s.node) (records_of c.args.store) (extent_of c.args.store) s.own s.ears s.clock s.due s.sender.count s.woken in
+    let old = standing (g.N.Node.state s.node) (records_of c.args.store) (journal_at c.args.store) s.own s.ears s.clock s.due s.sender.count s.woken in
     map_ok _ _ c.act.result (λ store acted.
     has_told (g.N.Node.role s.node) s.sender.boot c.args.bounds.period c.args.bounds.turns c.args.spent.now old _ _ _ _ _ _ _ c.in-Some.msg c.take.new.self
     c.in-Some.ensures c.act.ensures.given _ acted) c.act.ensures.acted
@@ -27,7 +27,7 @@ returns-in-Some-clause-passed g c =
 pub returns-in-Some-clause-ended : goal.returns-in-Some-clause-ended
 returns-in-Some-clause-ended g c =
     let s = c.args.self.now in
-    let old = standing (g.N.Node.state s.node) (records_of c.args.store) (extent_of c.args.store) s.own s.ears s.clock s.due s.sender.count s.woken in
+    let old = standing (g.N.Node.state s.node) (records_of c.args.store) (journal_at c.args.store) s.own s.ears s.clock s.due s.sender.count s.woken in
     map_err _ _ c.act.result (λ ended is.
     has_told_failed (g.N.Node.role s.node) s.sender.boot c.args.bounds.period c.args.bounds.turns c.args.spent.now old _ _ _ _ _ _ _ c.in-Some.msg c.take.new.self
     c.in-Some.ensures c.act.ensures.given
@@ -53,10 +53,10 @@ returns-then-self-clause-passed g c =
     let s = c.args.self.now in
     let n = c.settle.new.self in
     let role = g.N.Node.role s.node in
-    let old = standing (g.N.Node.state s.node) (records_of c.args.store) (extent_of c.args.store) s.own s.ears s.clock s.due s.sender.count s.woken in
+    let old = standing (g.N.Node.state s.node) (records_of c.args.store) (journal_at c.args.store) s.own s.ears s.clock s.due s.sender.count s.woken in
     let same : c.take.new.self ≡ s.own = c.in_default.ensures.1 ∙ sym c.in_default.ensures.0 in
     map_ok _ _ c.settle.result (λ store passes.
-    let new = standing (g.N.Node.state n.node) (records_of store) (extent_of store) n.own n.ears n.clock n.due n.sender.count n.woken in
+    let new = standing (g.N.Node.state n.node) (records_of store) (journal_at store) n.own n.ears n.clock n.due n.sender.count n.woken in
     has_looked role s.sender.boot c.args.bounds.period c.args.bounds.turns c.args.spent.now old _ _ _ _ _ _ _ refl refl refl new
     (looks_so role s.sender.boot c.args.bounds.period old c.take.new.self same (g.L.Link.given c.args.link.now) new passes))
     (c.settle.ensures.passed c.args.bounds.period (g.L.Link.given c.args.link.now))
@@ -65,7 +65,7 @@ pub returns-then-self-clause-ended : goal.returns-then-self-clause-ended
 returns-then-self-clause-ended g c =
     let s = c.args.self.now in
     let role = g.N.Node.role s.node in
-    let old = standing (g.N.Node.state s.node) (records_of c.args.store) (extent_of c.args.store) s.own s.ears s.clock s.due s.sender.count s.woken in
+    let old = standing (g.N.Node.state s.node) (records_of c.args.store) (journal_at c.args.store) s.own s.ears s.clock s.due s.sender.count s.woken in
     let same : c.take.new.self ≡ s.own = c.in_default.ensures.1 ∙ sym c.in_default.ensures.0 in
     map_err _ _ c.settle.result (λ ended is.
     let leaves = KeepsWith g.D.Disk.is_told g.D.Disk.moment g.D.Disk.left_since (disk_of c.args.store) ended.disk (records_of c.args.store) in
@@ -75,7 +75,7 @@ returns-then-self-clause-ended g c =
 pub returns-then-self-clause-cause : goal.returns-then-self-clause-cause
 returns-then-self-clause-cause g c =
     let s = c.args.self.now in
-    let now = standing (g.N.Node.state s.node) (records_of c.args.store) (extent_of c.args.store) c.take.new.self s.ears s.clock s.due s.sender.count s.woken in
+    let now = standing (g.N.Node.state s.node) (records_of c.args.store) (journal_at c.args.store) c.take.new.self s.ears s.clock s.due s.sender.count s.woken in
     map_err _ _ c.settle.result (λ ended is.
     settling_cause (g.N.Node.role s.node) s.sender.boot c.args.bounds.period now
     (KeepsWith g.D.Disk.is_told g.D.Disk.moment g.D.Disk.left_since (disk_of c.args.store) ended.disk (records_of c.args.store))

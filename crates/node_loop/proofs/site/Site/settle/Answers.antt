@@ -1,16 +1,14 @@
 use Rattle.std.proofs.Common.{rules, sym, ap, ◌∙◌, ◌≡◌, false, None, inl, inr}
-use Rattle.journal_areas.specs.declared.site.Area.{Area}
 use Rattle.object_store.specs.Access.{records_of, disk_of}
-use Rattle.node_runs.specs.Runs.{is_due, by_rest}
+use Rattle.node_runs.specs.Runs.{is_due, area_at, by_rest}
 use Rattle.node_runs.proofs.Keeping.{stays_so, stays_closed}
-use Rattle.node_loop.specs.Stores.{extent_of}
+use Rattle.node_loop.specs.Stores.{journal_at}
 use Rattle.node_loop.proofs.site.Site.settle.Goals as goal
 
 pub returns-then-not-is_due-clause-passed : goal.returns-then-not-is_due-clause-passed
 returns-then-not-is_due-clause-passed g c =
     let no : c.is_due.result ≡ false = search rules in
-    let due : is_due (extent_of c.args.store) ≡ false =
-    sym (c.is_due.ensures ∙ ap (λ (a : Area). is_due (record { length = a.length; first = a.first })) c.area.ensures) ∙ no in
+    let due : is_due (area_at (journal_at c.args.store)) ≡ false = sym (c.is_due.ensures ∙ ap is_due c.area.ensures) ∙ no in
     λ period to_come. by_rest (record { woken = c.requires.woken; why = inl due })
 
 pub returns-then-not-is_due-clause-keeps : goal.returns-then-not-is_due-clause-keeps

@@ -4,7 +4,7 @@ use Rattle.world_spec.specs.World.{Deed}
 use Rattle.node_runs.specs.Links.{Sends}
 use Rattle.node_runs.specs.Keeping.{KeepsWith}
 use Rattle.node_runs.specs.Serving.{put_of}
-use Rattle.node_loop.specs.Stores.{extent_of}
+use Rattle.node_loop.specs.Stores.{journal_at}
 use Rattle.node_runs.proofs.Keeping.{stays_so, stays_closed}
 use Rattle.node_runs.specs.Runs.{meets, ends_event, step_at}
 use Rattle.node_loop.specs.Turns.{standing, turn_of}
@@ -36,7 +36,7 @@ returns-in_default-happens-clause-passed g c =
     let kept = records_of c.args.store in
     let e = c.in-Ok-meet.ensures in
     has_turned _ _ _ c.args.bounds.turns _ _ _ _ _ _ _ _ _ _ _ _ c.saturating_sub-left.ensures c.in-Ok.ensures.begun c.requires.between None _
-    (sym c.in_default-happens.is ∙ e.happens kept (extent_of c.args.store)) refl (e.met kept (extent_of c.args.store))
+    (sym c.in_default-happens.is ∙ e.happens kept (journal_at c.args.store)) refl (e.met kept (journal_at c.args.store))
     (sends_same _ _ _ _ c.in-Ok.ensures.sent.0 c.in-Ok.ensures.sent.1)
 
 pub returns-in-Ok-true-clause-ended : goal.returns-in-Ok-true-clause-ended
@@ -51,7 +51,7 @@ returns-in-Ok-true-clause-ended g c =
     c.in-Ok.ensures.sent.0 c.in-Ok.ensures.sent.1
     (stays_closed D.is_told D.kept D.moment D.left_since (disk_of store) c.close-in-Ok-true.result (records_of store) None c.close-in-Ok-true.ensures store.keeps
     (λ image told left. g.met.D.Disk.only_now (disk_of store) image told left))
-    (Some c.in-Some.happens) (sym c.in-Some.is ∙ e.happens kept (extent_of c.args.store))
+    (Some c.in-Some.happens) (sym c.in-Some.is ∙ e.happens kept (journal_at c.args.store))
     (subst (λ r. ends_event r s.sender.boot 0 (Some c.in-Some.happens) ≡ true) (ap g.N.Node.role e.same.0) (sym c.in-Ok-true.ensures ∙ c.in-Ok-true.field-0-test))
 
 pub returns-in-Ok-false-clause-passed : goal.returns-in-Ok-false-clause-passed
@@ -61,9 +61,9 @@ returns-in-Ok-false-clause-passed g c =
     let s = c.args.self.now in
     map_ok _ _ c.act.result (λ store acted.
     let is = acted_as (g.N.Node.role s.node) s.sender.boot c.args.bounds.period _ _ _ _ _ _ c.in-Some.happens (ap g.N.Node.role e.same.0)
-    (ap (λ x. x.boot) e.same.1) (e.met kept (extent_of c.args.store)) acted in
-    has_turned (g.N.Node.role s.node) s.sender.boot c.args.bounds.period c.args.bounds.turns c.args.spent (standing (g.N.Node.state s.node) kept (extent_of c.args.store) s.own s.ears s.clock s.due s.sender.count s.woken) _ _ _ _ _ _ _ _ _ _ c.saturating_sub-left.ensures (begun_then _ _ _ _ _ _ _ c.act.ensures.given c.in-Ok.ensures.begun) c.requires.between (Some c.in-Some.happens) _
-    (sym c.in-Some.is ∙ e.happens kept (extent_of c.args.store))
+    (ap (λ x. x.boot) e.same.1) (e.met kept (journal_at c.args.store)) acted in
+    has_turned (g.N.Node.role s.node) s.sender.boot c.args.bounds.period c.args.bounds.turns c.args.spent (standing (g.N.Node.state s.node) kept (journal_at c.args.store) s.own s.ears s.clock s.due s.sender.count s.woken) _ _ _ _ _ _ _ _ _ _ c.saturating_sub-left.ensures (begun_then _ _ _ _ _ _ _ c.act.ensures.given c.in-Ok.ensures.begun) c.requires.between (Some c.in-Some.happens) _
+    (sym c.in-Some.is ∙ e.happens kept (journal_at c.args.store))
     (subst (λ r. ends_event r s.sender.boot 0 (Some c.in-Some.happens) ≡ false) (ap g.N.Node.role e.same.0) (sym c.in-Ok-false.ensures ∙ c.in-Ok-false.field-0-test))
     is.is (sends_from _ _ _ _ _ _ _ c.in-Ok.ensures.sent.0 c.in-Ok.ensures.sent.1 is.sends)) c.act.ensures.acted
 
@@ -75,21 +75,21 @@ returns-in-Ok-false-clause-ended g c =
     let e = c.in-Ok-meet.ensures in
     let s = c.args.self.now in
     let n = c.meet.new.self in
-    let old = standing (g.N.Node.state s.node) kept (extent_of store) s.own s.ears s.clock s.due s.sender.count s.woken in
-    let new = standing (g.N.Node.state n.node) kept (extent_of store) n.own n.ears n.clock n.due n.sender.count n.woken in
+    let old = standing (g.N.Node.state s.node) kept (journal_at store) s.own s.ears s.clock s.due s.sender.count s.woken in
+    let new = standing (g.N.Node.state n.node) kept (journal_at store) n.own n.ears n.clock n.due n.sender.count n.woken in
     let turn = turn_of c.begin.new.buf c.in-Ok.begun.0 c.in-Ok.begun.1 in
     let met = meets (g.N.Node.role s.node) s.sender.boot c.args.bounds.period old turn in
     map_err _ _ c.act.result (λ ended is.
     let leaves : Option Deed → Type 0 = (KeepsWith D.is_told D.moment D.left_since (disk_of store) ended.disk (records_of store)) in
     has_turn_failed (g.N.Node.role s.node) s.sender.boot c.args.bounds.period c.args.bounds.turns c.args.spent old _ _ _ _ _ _ _ _ leaves turn _
     c.saturating_sub-left.ensures (begun_then _ _ _ _ _ _ _ c.act.ensures.given c.in-Ok.ensures.begun) c.requires.between c.in-Some.happens ended.status
-    (sym c.in-Some.is ∙ e.happens kept (extent_of c.args.store))
+    (sym c.in-Some.is ∙ e.happens kept (journal_at c.args.store))
     (ends_from (step_at (g.N.Node.role s.node) s.sender.boot c.args.bounds.period met c.in-Some.happens) (g.N.Node.role s.node).node s.sender.boot met.ears.book
-    met.count ended.status _ _ _ _ _ _ (λ met. leaves (put_of met)) c.in-Ok.ensures.sent.0 c.in-Ok.ensures.sent.1
+    met.count met.journal ended.status _ _ _ _ _ _ (λ met. leaves (put_of met)) c.in-Ok.ensures.sent.0 c.in-Ok.ensures.sent.1
     (ends_as (g.N.Node.role s.node) s.sender.boot c.args.bounds.period
     (Sends (g.L.Link.sent c.begin.new.link) (g.L.Link.sent c.act.new.link) (g.L.Link.loss_count c.begin.new.link) (g.L.Link.loss_count c.act.new.link)) (λ met. leaves (put_of met))
     (g.N.Node.role n.node) n.sender.boot met new c.in-Some.happens ended.status (ap g.N.Node.role e.same.0)
-    (ap (λ x. x.boot) e.same.1) (e.met kept (extent_of c.args.store)) is))) c.act.ensures.ends
+    (ap (λ x. x.boot) e.same.1) (e.met kept (journal_at c.args.store)) is))) c.act.ensures.ends
 
 pub returns-clause-ended : goal.returns-clause-ended
 returns-clause-ended g c =
