@@ -1,21 +1,31 @@
-ghost use Rattle.std.specs.Prelude.{◌≡◌, ◌+◌, ◌<◌, ◌≤◌, ℕ, length, take, drop, IfOk, IfErr};
+//! What `put` writes, piece by piece: bytes of the pattern, or those of a source.
+ghost use Rattle.std.specs.Prelude.{◌≡◌, ◌+◌, ◌<◌, ◌≤◌, ℕ, false, length, take, drop, IfOk, IfErr};
 ghost use Rattle.node_links.specs.Streams.{Takes, IsAtEnd};
-ghost use Rattle.client_jobs.specs.Content.{bytes_of, pattern_from, HasReadCause};
+ghost use Rattle.client_plans.specs.Plans as plan;
+ghost use Rattle.client_jobs.specs.Content.{pattern_from, HasReadCause, HasRead, HasPartRead};
 
+use crate::pieces::{room_at, with_piece};
+use client_plans::Stage;
 use node_links::Source;
 use schedule_lines::take_byte;
 use std::alloc::Global;
 use xt_base::{Failed, Octets, OutOfMemory};
 
-/// What `put` writes.
-#[derive(Drop)]
-pub enum Content {
-    Bytes { bytes: Octets },
-    /// So many bytes of the pattern: each is its place modulo 251.
-    Pattern { size: u64 },
+/// Bytes of the pattern, of which each is its place modulo 251: how many they are, and how many of them were taken.
+#[derive(Clone, Copy)]
+pub struct PatternPieces {
+    pub size: u64,
+    pub taken: u64,
 }
 
-/// Why a source isn't read to its end.
+/// Bytes of a source: how many of them were taken, and whether it was at its end then.
+#[derive(Clone, Copy)]
+pub struct SourcePieces {
+    pub taken: u64,
+    pub ended: bool,
+}
+
+/// Why a piece of a source isn't taken.
 #[derive(Clone, Copy)]
 pub enum ReadErr {
     /// It failed, and has had so many faults.
@@ -36,54 +46,20 @@ fn pattern(alloc: Global, from: u64, count: u32) -> Result<Octets, OutOfMemory>
     Ok(Octets::from(bytes))
 }
 
-/// A piece of bytes.
-fn piece_of(bytes: &[u8], from: u64, count: u32) -> &[u8]
-    ensures { result.now ≡ take count (drop from bytes.now) }
-{
-    let from = from.min(bytes.len() as u64) as usize;
-    let rest = &bytes[from..];
-    &rest[..rest.len().min(count as usize)]
-}
-
-impl Content {
-    /// How many bytes it has.
-    #[tactic(auto, using(crate::proofs::Pattern::length_pattern))]
-    pub fn size(&self) -> u64
-        ensures { result ≡ length (bytes_of self.now) }
-    {
-        match self {
-            Content::Bytes { bytes } => bytes.as_slice().len() as u64,
-            Content::Pattern { size } => *size,
-        }
-    }
-
-    /// So many of its bytes, from this place on, or those that are left there.
-    #[tactic(auto, using(crate::proofs::Pattern::piece_pattern))]
-    pub fn piece(&self, alloc: Global, from: u64, count: u32) -> Result<Octets, OutOfMemory>
-        ensures { IfOk result (λ made. made ≡ take count (drop from (bytes_of self.now))) }
-    {
-        match self {
-            Content::Bytes { bytes } => Octets::of(alloc, piece_of(bytes.as_slice(), from, count)),
-            Content::Pattern { size } => {
-                let left = size.saturating_sub(from);
-                let count = left.min(u64::from(count)) as u32;
-                pattern(alloc, from, count)
-            }
-        }
-    }
-}
-
-/// Reads a source to its end.
+/// Takes so many bytes of a source, or all where it has fewer.
 #[tactic(auto, using(crate::proofs::Taken::taken_more, crate::proofs::Taken::taken_all))]
-pub fn read_all<S: Source>(alloc: Global, src: &mut S) -> Result<Octets, ReadErr>
-    ensures whole { IfOk result (λ bytes. Takes (S.left src.old) (S.left src.new) bytes
-        × IsAtEnd (S.left src.new)) }
-    ensures sound { IfOk result (λ bytes. S.fault_count src.new ≡ S.fault_count src.old) }
+fn read_piece<S: Source>(alloc: Global, src: &mut S, room: u32) -> Result<Octets, ReadErr>
+    ensures taken { IfOk result (λ piece. Takes (S.left src.old) (S.left src.new) piece
+        × (length piece ≤ room)) }
+    ensures whole { IfOk result (λ piece. length piece < room → IsAtEnd (S.left src.new)) }
+    ensures sound { IfOk result (λ piece. S.fault_count src.new ≡ S.fault_count src.old) }
+    ensures part { IfErr result (λ error.
+        HasPartRead false (S.left src.old) (S.left src.new) room) }
     ensures cause { IfErr result
         (HasReadCause (S.fault_count src.old) (S.fault_count src.new)) }
 {
     let mut bytes = Vec::new(alloc);
-    for _ in 0..u64::MAX {
+    for _ in 0..room {
         match take_byte(src) {
             Ok(Some(byte)) => {
                 if bytes.push(byte).is_err() {
@@ -98,5 +74,91 @@ pub fn read_all<S: Source>(alloc: Global, src: &mut S) -> Result<Octets, ReadErr
             }
         }
     }
-    unreachable!()
+    Ok(Octets::from(bytes))
+}
+
+impl PatternPieces {
+    /// So many bytes, of which none was taken yet.
+    pub fn new(size: u64) -> PatternPieces
+        ensures { (result.size ≡ size) × (result.taken ≡ 0) }
+    {
+        PatternPieces { size, taken: 0 }
+    }
+
+    /// Takes the next bytes, so many at most.
+    #[tactic(auto, using(crate::proofs::Pattern::length_pattern, crate::proofs::Pattern::piece_pattern))]
+    fn next(&mut self, alloc: Global, room: u32) -> Result<Octets, OutOfMemory>
+        ensures piece { IfOk result (λ piece.
+            piece ≡ take room (drop self.old.taken (pattern_from 0 self.old.size))) }
+        ensures taken { IfOk result (λ piece.
+            self.new.taken ≡ self.old.taken + length piece) }
+        ensures size { self.new.size ≡ self.old.size }
+        ensures kept { IfErr result (λ error. self.new ≡ self.old) }
+    {
+        let left = self.size.saturating_sub(self.taken);
+        let count = left.min(u64::from(room)) as u32;
+        let piece = pattern(alloc, self.taken, count)?;
+        self.taken += u64::from(count);
+        Ok(piece)
+    }
+
+    /// Takes the piece that a stage asks for, where it asks for one: the stage then.
+    pub fn feed(&mut self, alloc: Global, stage: Stage) -> Result<Stage, OutOfMemory>
+        ensures stage { IfOk result (λ next. next ≡ plan.with_piece self.old.taken
+            (plan.piece_at (pattern_from 0 self.old.size) self.old.taken stage) stage) }
+        ensures taken { IfOk result (λ next. self.new.taken ≡ self.old.taken
+            + length (plan.piece_at (pattern_from 0 self.old.size) self.old.taken stage)) }
+        ensures size { self.new.size ≡ self.old.size }
+        ensures kept { IfErr result (λ error. self.new ≡ self.old) }
+    {
+        let taken = self.taken;
+        let piece = self.next(alloc, room_at(taken, &stage))?;
+        Ok(with_piece(taken, piece, stage))
+    }
+}
+
+impl SourcePieces {
+    /// None of its bytes was taken yet.
+    pub fn new() -> SourcePieces
+        ensures { (result.taken ≡ 0) × (result.ended ≡ false) }
+    {
+        SourcePieces {
+            taken: 0,
+            ended: false,
+        }
+    }
+
+    /// Takes the next bytes of the source, so many at most. The source isn't asked again once it was at its end. More bytes than a number
+    /// counts are reported as out of memory.
+    pub fn next<S: Source>(
+        &mut self,
+        alloc: Global,
+        src: &mut S,
+        room: u32,
+    ) -> Result<Octets, ReadErr>
+        ensures read { IfOk result (λ piece. HasRead self.old.ended self.new.ended
+            (S.left src.old) (S.left src.new) room piece) }
+        ensures taken { IfOk result (λ piece.
+            self.new.taken ≡ self.old.taken + length piece) }
+        ensures sound { IfOk result (λ piece. S.fault_count src.new ≡ S.fault_count src.old) }
+        ensures part { IfErr result (λ error.
+            HasPartRead self.old.ended (S.left src.old) (S.left src.new) room) }
+        ensures cause { IfErr result
+            (HasReadCause (S.fault_count src.old) (S.fault_count src.new)) }
+    {
+        if self.ended {
+            return Ok(Octets::new(alloc));
+        }
+        let piece = match read_piece(alloc, src, room) {
+            Ok(piece) => piece,
+            Err(error) => return Err(error),
+        };
+        let count = piece.as_slice().len() as u64;
+        let Some(taken) = self.taken.checked_add(count) else {
+            return Err(ReadErr::OutOfMemory);
+        };
+        self.taken = taken;
+        self.ended = count < u64::from(room);
+        Ok(piece)
+    }
 }
