@@ -17,6 +17,9 @@ taken_all a b c xs found before same took =
 next_fits : (n count room : ℕ) → n ≡ count + 1 → count < room → n ≤ room
 next_fits n count room is below = omega arith
 
+room_for_one : (count room : ℕ) → count < room → 1 ≤ room
+room_for_one count room below = omega arith
+
 -- a byte was taken for which there was no memory
 pub taken_in_part : (a b c : Option (List ℕ)) (xs : List ℕ) (found : Option ℕ) (byte count room : ℕ) → Takes a b xs → found ≡ Some byte
     → MatchOption found (IsAtEnd b × Takes b c []) (λ x. Takes b c (x ∷ [])) → length xs ≡ count → count < room → HasPartRead false a c room
@@ -25,5 +28,6 @@ taken_in_part a b c xs found byte count room before same took each below =
       front = xs ++ byte ∷ [];
       takes = taken_more a b c xs found byte before same took;
       few = next_fits (length (xs ++ byte ∷ [])) (length xs) room (length-append xs (byte ∷ [])) (subst (λ (n : ℕ). n < room) (sym each) below);
+      some = room_for_one count room below;
       open_end = refl;
     }

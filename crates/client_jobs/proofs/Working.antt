@@ -156,7 +156,7 @@ work_spent c bytes from between start s held later final count taken sink middle
 -- the piece after an operation isn't taken
 pub work_unfed : (c : Command) (bytes : List ℕ) (from between after : Around) (start s : CommandState) (held later put final : Option (List ℕ)) (count drawn taken : ℕ) (left : CommandSession)
     (went : Stage) (sink middle risen link clock source linked clocked sourced : ℕ) (now : Counts) (why said : Status) → IsUnderWay c bytes from start held count between s drawn later
-    → HasAdvanced c between after s later put left (to.On went) → drawn ≤ taken → taken ≤ drawn + room_at drawn went → CannotTake c.task.wish why
+    → HasAdvanced c between after s later put left (to.On went) → drawn ≤ taken → taken ≤ drawn + room_at drawn went → CannotTake c.task.wish (room_at drawn went) why
     → linked ≡ link → clocked ≡ clock → sourced ≡ source → HasWhy (record { link = linked; clock = clocked; source = sourced }) now why → middle ≡ sink → Closes put final middle risen why said
     → HasWorked c bytes from after start left held final sink risen (record { link = link; clock = clock; source = source }) now taken said
 work_unfed c bytes from between after start s held later put final count drawn taken left went sink middle risen link clock source linked clocked sourced now why said way has least most cannot l k e cause f closes =
@@ -172,7 +172,7 @@ work_unfed c bytes from between after start s held later put final count drawn t
       least = least;
       most = subst (λ (x : Stage). taken ≤ drawn + room_at drawn x) has.2 most;
       why = why;
-      cannot = cannot;
+      cannot = subst (λ (x : Stage). CannotTake c.task.wish (room_at drawn x) why) has.2 cannot;
       cause = counted link clock source linked clocked sourced now why l k e cause;
       put = put;
       puts = Puts-append held later put way.text (goes_by c.task.wish s.stage has.0).text way.puts has.3;

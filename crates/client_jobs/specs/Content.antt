@@ -22,9 +22,10 @@ HasRead true ended before after room piece = (piece ≡ []) × (after ≡ before
 HasRead false ended before after room piece =
     Takes before after piece × (length piece ≤ room) × (ended ≡ nat_lt (length piece) room) × (length piece < room → IsAtEnd after)
 
--- Fewer than that were taken, or as many, when it ended.
+-- A piece wasn't taken for which there was room, or in part, from a source that wasn't at its end before: it failed, or memory ran out.
 pub record HasPartRead (ended : Bool) (before after : Option (List ℕ)) (room : ℕ) : Type 0 where
   pub front : List ℕ
   pub takes : Takes before after front
   pub few : length front ≤ room
+  pub some : 1 ≤ room
   pub open_end : ended ≡ false

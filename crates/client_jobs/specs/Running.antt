@@ -306,11 +306,11 @@ pub record IsCut (c : Command) (bytes : List ℕ) (from after : Around) (start :
   pub told : times ≡ risen
   pub sound : IsSound before now
 
--- why a piece isn't taken: the source fails, where it is one's, or memory runs out
-abbrev pub CannotTake : Order → Status → Type 0
-CannotTake wish (status.SourceFault count) = put_in wish ≡ Some None
-CannotTake wish status.OutOfMemory = Unit {0}
-CannotTake wish _ = ⊥
+-- why a piece isn't taken for which there is so much room: the source fails, where the piece is one of its bytes, or memory runs out
+abbrev pub CannotTake : Order → ℕ → Status → Type 0
+CannotTake wish room (status.SourceFault count) = (put_in wish ≡ Some None) × (1 ≤ room)
+CannotTake wish room status.OutOfMemory = Unit {0}
+CannotTake wish room _ = ⊥
 
 -- The piece after the last operation wasn't taken, or in part. Nothing was sent or received for it, and what the operations were to
 -- write was put, and the last line of the status after it.
@@ -327,7 +327,7 @@ pub record IsUnfed (c : Command) (bytes : List ℕ) (from after : Around) (start
   pub least : drawn ≤ taken
   pub most : taken ≤ drawn + room_at drawn (goes_by c.task.wish s.stage ended).stage
   pub why : Status
-  pub cannot : CannotTake c.task.wish why
+  pub cannot : CannotTake c.task.wish (room_at drawn (goes_by c.task.wish s.stage ended).stage) why
   pub cause : HasWhy before now why
   pub put : Option (List ℕ)
   pub puts : Puts held put (text ++ (goes_by c.task.wish s.stage ended).text)

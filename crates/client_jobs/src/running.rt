@@ -77,7 +77,8 @@ pub fn status_of(error: DriveErr) -> Status
 
 /// The status of a piece of the source that isn't taken.
 fn unread(error: ReadErr) -> Status
-    ensures cannot { (wish : Order) → spec.put_in wish ≡ Some None → CannotTake wish result }
+    ensures cannot { (wish : Order) (room : ℕ) → spec.put_in wish ≡ Some None → 1 ≤ room →
+        CannotTake wish room result }
     ensures cause { (link clock : ℕ) (before later : ℕ) → HasReadCause before later error →
         HasWhy (record { link = link; clock = clock; source = before })
         (record { link = link; clock = clock; source = later }) result }

@@ -1,6 +1,6 @@
 use Rattle.std.proofs.Common.{◌∙◌, ◌≤◌, ◌+◌, ℕ, refl, subst}
 use Rattle.client_plans.specs.Plans.{begins}
-use Rattle.client_jobs.specs.Running.{command_of}
+use Rattle.client_jobs.specs.Running.{CannotTake, command_of}
 use Rattle.client_jobs.proofs.Working.{work_over, work_ends, work_cut, work_spent, work_unfed}
 use Rattle.client_jobs.proofs.Feeding.{begins_fed, goes_fed, for_all_bytes, for_part}
 use Rattle.client_jobs.proofs.running.work_from.Goals as goal
@@ -65,7 +65,9 @@ returns-in-Err g c =
     (λ bytes taken way least most.
     work_unfed (command_of c.args.job.now) bytes _ _ _ _ _ _ _ _ _ c.loop.counter c.loop.pieces.taken taken c.advance.new.session
     c.in-On.next _ _ _ _ _ _ _ _ (g.S.Source.fault_count c.loop.src) _ c.unread.result _ way c.in-On.ensures.advanced least
-    (subst (λ (room : ℕ). taken ≤ c.loop.pieces.taken + room) c.room_at.ensures most) (c.unread.ensures.cannot c.args.job.now.order c.requires.source)
+    (subst (λ (room : ℕ). taken ≤ c.loop.pieces.taken + room) c.room_at.ensures most)
+    (subst (λ (room : ℕ). CannotTake c.args.job.now.order room c.unread.result) c.room_at.ensures
+    (c.unread.ensures.cannot c.args.job.now.order c.room_at.result c.requires.source c.in-Err.ensures.part.some))
     ((c.in-On.ensures.cause 0).0 ∙ c.loop.invariant.link) ((c.in-On.ensures.cause 0).1 ∙ c.loop.invariant.clock) c.loop.invariant.source
     (c.unread.ensures.cause (g.L.Link.fault_count c.advance.new.link) (g.C.Clock.fault_count c.advance.new.clock) (g.S.Source.fault_count c.loop.src)
     (g.S.Source.fault_count c.next.new.src) c.in-Err.ensures.cause)
