@@ -1,5 +1,4 @@
 pub mod Feeding
 pub mod Pattern
 pub mod Sessions
-pub mod Taken
 pub mod Working

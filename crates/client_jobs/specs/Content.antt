@@ -1,5 +1,5 @@
 -- what `put` writes
-use Rattle.std.specs.Prelude.{ℕ, ◌≡◌, ◌≤◌, ◌<◌, suc, zero, ◌+◌, ◌%◌, nat_lt, Bool, true, false, Option, List, [], ◌∷◌, length}
+use Rattle.std.specs.Prelude.{ℕ, ◌≡◌, ◌≤◌, ◌<◌, suc, zero, ◌+◌, ◌%◌, nat_lt, Bool, true, false, Option, List, [], ◌∷◌, ◌++◌, length}
 use Rattle.node_links.specs.Streams.{Takes, IsAtEnd}
 use Rattle.client_jobs.specs.declared.content.ReadErr.{ReadErr}
 use Rattle.client_jobs.specs.declared.content.ReadErr.TheVariants as read
@@ -14,6 +14,12 @@ pattern_from place (suc count) = place % 251 ∷ pattern_from (place + 1) count
 abbrev pub HasReadCause : ℕ → ℕ → ReadErr → Type 0
 HasReadCause before later (read.Failed count) = Rose before later × (count ≡ later)
 HasReadCause before later read.OutOfMemory = later ≡ before
+
+-- Bytes were taken of a source, at least one and so many at most, and stand after those that were there; or none, at its end.
+abbrev pub HasMore : Bool → Option (List ℕ) → Option (List ℕ) → ℕ → List ℕ → List ℕ → Type 0
+HasMore true before after room bytes longer =
+    (front : List ℕ) × Takes before after front × (longer ≡ bytes ++ front) × (1 ≤ length front) × (length front ≤ room)
+HasMore false before after room bytes longer = Takes before after [] × IsAtEnd after × (longer ≡ bytes)
 
 -- A piece was taken of a source, so many bytes at most, and it has fewer only at the end. Where the source was at its end before, it is
 -- left alone.

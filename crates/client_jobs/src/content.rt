@@ -1,15 +1,14 @@
 //! What `put` writes, piece by piece: bytes of the pattern, or those of a source.
-ghost use Rattle.std.specs.Prelude.{◌≡◌, ◌+◌, ◌<◌, ◌≤◌, ℕ, false, length, take, drop, IfOk, IfErr};
+ghost use Rattle.std.specs.Prelude.{◌≡◌, ◌+◌, ◌<◌, ◌≤◌, ℕ, true, false, Ok, length, take, drop, IfOk, IfErr};
 ghost use Rattle.node_links.specs.Streams.{Takes, IsAtEnd};
 ghost use Rattle.client_plans.specs.Plans as plan;
-ghost use Rattle.client_jobs.specs.Content.{pattern_from, HasReadCause, HasRead, HasPartRead};
+ghost use Rattle.client_jobs.specs.Content.{pattern_from, HasReadCause, HasMore, HasRead, HasPartRead};
 
 use crate::pieces::{room_at, with_piece};
 use client_plans::Stage;
 use node_links::Source;
-use schedule_lines::take_byte;
 use std::alloc::Global;
-use xt_base::{Failed, Octets, OutOfMemory};
+use xt_base::{Octets, OutOfMemory};
 
 /// Bytes of the pattern, of which each is its place modulo 251: how many they are, and how many of them were taken.
 #[derive(Clone, Copy)]
@@ -46,8 +45,62 @@ fn pattern(alloc: Global, from: u64, count: u32) -> Result<Octets, OutOfMemory>
     Ok(Octets::from(bytes))
 }
 
+/// Whether a byte is left of a source: where none was read ahead, the source reads.
+fn is_left<S: Source>(src: &mut S) -> Result<bool, ReadErr>
+    ensures left { S.left src.new ≡ S.left src.old }
+    ensures more { result ≡ Ok true → 1 ≤ length (S.ahead src.new) }
+    ensures end { result ≡ Ok false → IsAtEnd (S.left src.new) }
+    ensures sound { IfOk result (λ left. S.fault_count src.new ≡ S.fault_count src.old) }
+    ensures cause { IfErr result
+        (HasReadCause (S.fault_count src.old) (S.fault_count src.new)) }
+{
+    if src.ahead().is_empty() && src.fill().is_err() {
+        return Err(ReadErr::Failed {
+            count: src.faults(),
+        });
+    }
+    Ok(!src.ahead().is_empty())
+}
+
+/// Takes what a source has read ahead, so many bytes at most, and appends it.
+fn take_ahead<S: Source>(src: &mut S, bytes: &mut Vec<u8>, room: usize) -> Result<(), OutOfMemory>
+    requires some { 1 ≤ length (S.ahead src.old) }
+    requires room { 1 ≤ room }
+    ensures more { IfOk result (λ done.
+        HasMore true (S.left src.old) (S.left src.new) room bytes.old.items bytes.new.items) }
+    ensures kept { IfErr result (λ error. S.left src.new ≡ S.left src.old) }
+    ensures sound { S.fault_count src.new ≡ S.fault_count src.old }
+{
+    let ahead = src.ahead();
+    let front = &ahead[..ahead.len().min(room)];
+    let count = front.len();
+    bytes.extend_from_slice(front)?;
+    src.consume(count);
+    Ok(())
+}
+
+/// Takes bytes of a source and appends them, at least one and so many at most, or none at its end: whether there was one.
+fn take_more<S: Source>(src: &mut S, bytes: &mut Vec<u8>, room: usize) -> Result<bool, ReadErr>
+    requires { 1 ≤ room }
+    ensures more { IfOk result (λ more.
+        HasMore more (S.left src.old) (S.left src.new) room bytes.old.items bytes.new.items) }
+    ensures kept { IfErr result (λ error. S.left src.new ≡ S.left src.old) }
+    ensures sound { IfOk result (λ more. S.fault_count src.new ≡ S.fault_count src.old) }
+    ensures cause { IfErr result
+        (HasReadCause (S.fault_count src.old) (S.fault_count src.new)) }
+{
+    match is_left(src) {
+        Ok(true) => {}
+        Ok(false) => return Ok(false),
+        Err(error) => return Err(error),
+    }
+    match take_ahead(src, bytes, room) {
+        Ok(()) => Ok(true),
+        Err(_) => Err(ReadErr::OutOfMemory),
+    }
+}
+
 /// Takes so many bytes of a source, or all where it has fewer.
-#[tactic(auto, using(crate::proofs::Taken::taken_more, crate::proofs::Taken::taken_all))]
 fn read_piece<S: Source>(alloc: Global, src: &mut S, room: u32) -> Result<Octets, ReadErr>
     ensures taken { IfOk result (λ piece. Takes (S.left src.old) (S.left src.new) piece
         × (length piece ≤ room)) }
@@ -58,20 +111,14 @@ fn read_piece<S: Source>(alloc: Global, src: &mut S, room: u32) -> Result<Octets
     ensures cause { IfErr result
         (HasReadCause (S.fault_count src.old) (S.fault_count src.new)) }
 {
+    let room = room as usize;
     let mut bytes = Vec::new(alloc);
-    for _ in 0..room {
-        match take_byte(src) {
-            Ok(Some(byte)) => {
-                if bytes.push(byte).is_err() {
-                    return Err(ReadErr::OutOfMemory);
-                }
-            }
-            Ok(None) => return Ok(Octets::from(bytes)),
-            Err(Failed) => {
-                return Err(ReadErr::Failed {
-                    count: src.faults(),
-                });
-            }
+    while bytes.len() < room {
+        let left = room - bytes.len();
+        match take_more(src, &mut bytes, left) {
+            Ok(true) => {}
+            Ok(false) => return Ok(Octets::from(bytes)),
+            Err(error) => return Err(error),
         }
     }
     Ok(Octets::from(bytes))
