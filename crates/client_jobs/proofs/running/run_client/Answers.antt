@@ -17,18 +17,17 @@ returns-in-Err g c =
 
 pub returns : goal.returns
 returns g c =
-    let worked = c.work.ensures.worked (g.S.Source.fault_count c.args.src.now) in
     inr (record {
       unread = g.C.Clock.readings c.begin.new.clock;
       session = c.in-Ok.session;
       starts = c.in-Ok.ensures.begins;
       bytes = bytes_put (put_in c.args.job.now.order);
-      taken = worked.0;
+      taken = (c.work.ensures.worked (g.S.Source.fault_count c.args.src.now)).0;
       content =
-          content_made (put_in c.args.job.now.order) (g.S.Source.left c.args.src.now) worked.0
+          content_made (put_in c.args.job.now.order) (g.S.Source.left c.args.src.now) (c.work.ensures.worked (g.S.Source.fault_count c.args.src.now)).0
           (c.reads_source.ensures.none c.if-reads_source.false);
       leaves = c.work.new.session;
       works =
           job_works (command_of c.args.job.now) _ _ _ _ _ _ _ _ _ _ _ _ _ _ _ _ _ _ _ _ _ _ _ c.in-Ok.ensures.link.0
-          c.in-Ok.ensures.link.1 c.in-Ok.ensures.link.2 c.in-Ok.ensures.sound.0 c.in-Ok.ensures.sound.1 worked.1;
+          c.in-Ok.ensures.link.1 c.in-Ok.ensures.link.2 c.in-Ok.ensures.sound.0 c.in-Ok.ensures.sound.1 (c.work.ensures.worked (g.S.Source.fault_count c.args.src.now)).1;
     })
