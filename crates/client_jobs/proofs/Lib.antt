@@ -1,5 +1,4 @@
-pub mod Counting
+pub mod Feeding
 pub mod Pattern
 pub mod Sessions
-pub mod Taken
 pub mod Working

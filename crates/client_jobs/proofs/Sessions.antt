@@ -73,36 +73,35 @@ goes_back job old left final l =
     ap (λ (x : DriverView). let s : CommandSession = record { driver = x; client = left.client } in s)
     (l.works ∙ ap (on_terms left.driver) (l.after ∙ ap (λ (t : Terms). terms_after job t l.given) l.are ∙ ap (terms_after job (terms_of old.driver)) l.were))
 
-pub line_runs : (job : ClientJob) (old left : CommandSession) (bytes : List ℕ) (reading : ℕ) (unread : Option (List ℕ)) (driver final : DriverView) (client : ClientView) (before after : Around)
+pub line_runs : (job : ClientJob) (old left : CommandSession) (reading : ℕ) (unread : Option (List ℕ)) (driver final : DriverView) (client : ClientView) (before after : Around)
     (held later : Option (List ℕ)) (sink risen link clock source clocked : ℕ) (now : Counts) (ended : Status) → Reads before.to_read unread (reading ∷ [])
-    → clocked ≡ clock → bytes ≡ bytes_put (put_in job.order) → Begun job old reading driver client → Left job old left final
-    → HasWorked (command_of job bytes) (record before { to_read = unread }) after (starts_in job (record { driver = driver; client = client })) left held later sink risen
-    (record { link = link; clock = clocked; source = source }) now ended
+    → clocked ≡ clock → Begun job old reading driver client → Left job old left final
+    → ((taken : ℕ) × HasWorked (command_of job) (bytes_put (put_in job.order)) (record before { to_read = unread }) after (starts_in job (record { driver = driver; client = client })) left
+    held later sink risen (record { link = link; clock = clocked; source = source }) now taken ended)
     → IsLine job old (record { driver = final; client = left.client }) before after held later sink risen (record { link = link; clock = clock; source = source }) now ended
-line_runs job old left bytes reading unread driver final client before after held later sink risen link clock source clocked now ended reads sound same begun back works =
-    let P : List ℕ → CommandSession → ℕ → Type 0 =
-    λ b s n. HasWorked (command_of job b) (record before { to_read = unread }) after (starts_in job s) left held later sink risen
-    (record { link = link; clock = n; source = source }) now ended in
-    let first : CommandSession = record { driver = driver; client = client } in
+line_runs job old left reading unread driver final client before after held later sink risen link clock source clocked now ended reads sound begun back works =
+    let P : CommandSession → ℕ → Type 0 =
+    λ s n. HasWorked (command_of job) (bytes_put (put_in job.order)) (record before { to_read = unread }) after (starts_in job s) left held later sink risen
+    (record { link = link; clock = n; source = source }) now works.0 ended in
     inr (record {
       reading = reading;
       unread = unread;
       reads = reads;
       left = left;
+      taken = works.0;
       works =
-          subst (P (bytes_put (put_in job.order)) (session_for job (number_after old reading) old)) sound
-          (subst (λ (s : CommandSession). P (bytes_put (put_in job.order)) s clocked) (begun_in job old reading driver client begun)
-          (subst (λ (b : List ℕ). P b first clocked) same works));
+          subst (P (session_for job (number_after old reading) old)) sound
+          (subst (λ (s : CommandSession). P s clocked) (begun_in job old reading driver client begun) works.1);
       goes_back = goes_back job old left final back;
     })
 
-pub lists_end : (base : Defaults) (job : ClientJob) (old new : CommandSession) (bytes : List ℕ) (first : ℕ) (client : ClientView) (before after : Around) (counts now : Counts) (why : Status)
-    → job ≡ lists_alone base → bytes ≡ [] → first ≡ old.client.state.replicas.next → client ≡ client_of job first
-    → ((text : List ℕ) × Ends (command_of job bytes) before after (record { session = record { driver = old.driver; client = client }; stage = next.Lists 2 nobody }) new counts now why text)
+pub lists_end : (base : Defaults) (job : ClientJob) (old new : CommandSession) (first : ℕ) (client : ClientView) (before after : Around) (counts now : Counts) (why : Status)
+    → job ≡ lists_alone base → first ≡ old.client.state.replicas.next → client ≡ client_of job first
+    → ((taken : ℕ) × (text : List ℕ) × Ends (command_of job) [] before after (record { session = record { driver = old.driver; client = client }; stage = next.Lists 2 nobody }) new counts now why taken text)
     → IsListed base old new before after counts now why
-lists_end base job old new bytes first client before after counts now why is none follows new_one ends =
+lists_end base job old new first client before after counts now why is follows new_one ends =
     let c = new_one ∙ ap (λ (j : ClientJob). client_of j first) is ∙ ap (client_of (lists_alone base)) follows in
-    let P : ClientJob → List ℕ → ClientView → Type 0 =
-    λ j b x. (text : List ℕ) × Ends (command_of j b) before after (record { session = record { driver = old.driver; client = x }; stage = next.Lists 2 nobody }) new counts now why text in
-    let same = subst (λ (x : ClientView). P (lists_alone base) [] x) c (subst (λ (b : List ℕ). P (lists_alone base) b client) none (subst (λ (j : ClientJob). P j bytes client) is ends)) in
-    record { text = same.0; ends = same.1 }
+    let P : ClientJob → ClientView → Type 0 =
+    λ j x. (taken : ℕ) × (text : List ℕ) × Ends (command_of j) [] before after (record { session = record { driver = old.driver; client = x }; stage = next.Lists 2 nobody }) new counts now why taken text in
+    let same = subst (λ (x : ClientView). P (lists_alone base) x) c (subst (λ (j : ClientJob). P j client) is ends) in
+    record { taken = same.0; text = same.1; ends = same.2 }

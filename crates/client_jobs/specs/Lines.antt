@@ -90,8 +90,9 @@ pub record HasRun (job : ClientJob) (old new : CommandSession) (before after : A
   pub unread : Option (List ℕ)
   pub reads : Reads before.to_read unread (reading ∷ [])
   pub left : CommandSession
-  pub works : HasWorked (command_of job (bytes_put (put_in job.order))) (record before { to_read = unread }) after
-      (starts_in job (session_for job (number_after old reading) old)) left held later sink risen counts now ended
+  pub taken : ℕ
+  pub works : HasWorked (command_of job) (bytes_put (put_in job.order)) (record before { to_read = unread }) after
+      (starts_in job (session_for job (number_after old reading) old)) left held later sink risen counts now taken ended
   pub goes_back : new ≡ session_after job old left
 
 -- What a command of a session does.
@@ -114,5 +115,6 @@ before_lists base session = record {
 
 -- The lists with which commands begin were made, and nothing else; or they ended for this reason.
 pub record IsListed (base : Defaults) (old new : CommandSession) (before after : Around) (counts now : Counts) (why : Status) : Type 0 where
+  pub taken : ℕ
   pub text : List ℕ
-  pub ends : Ends (command_of (lists_alone base) []) before after (before_lists base old) new counts now why text
+  pub ends : Ends (command_of (lists_alone base)) [] before after (before_lists base old) new counts now why taken text

@@ -1,5 +1,5 @@
 -- a client command from its start to its end
-use Rattle.std.specs.Prelude.{ℕ, ◌≡◌, ◌⊎◌, ◌+◌, ◌*◌, ◌^◌, ◌%◌, Bool, true, false, ◌&&◌, IsSome, Option, Some, None, Result, Ok, Err, List, [], ◌∷◌, ◌++◌, length}
+use Rattle.std.specs.Prelude.{ℕ, ◌≡◌, ◌≤◌, ◌⊎◌, ◌+◌, ◌*◌, ◌^◌, ◌%◌, Bool, true, false, ◌&&◌, IsSome, Option, Some, None, Result, Ok, Err, List, [], ◌∷◌, ◌++◌, length, take}
 use Rattle.xt_base.specs.Faults.{Rose}
 use Rattle.xt_base.specs.TimeSettings.{TimeSettings}
 use Rattle.xt_base.specs.declared.ids.NodeId.{NodeId}
@@ -8,7 +8,7 @@ use Rattle.xt_messages.specs.Limits.{FitsNode}
 use Rattle.xt_messages.specs.declared.status.Limited.TheVariants as limited
 use Rattle.xt_messages.specs.declared.status.Status.{Status}
 use Rattle.xt_messages.specs.declared.status.Status.TheVariants as status
-use Rattle.node_links.specs.Streams.{Takes, IsAtEnd, Puts}
+use Rattle.node_links.specs.Streams.{Takes, Puts}
 use Rattle.node_runs.specs.Links.{Reads}
 use Rattle.node_runs.specs.Hearing.{with_address}
 use Rattle.schedule_lines.specs.Fronts.{PutsFront}
@@ -28,7 +28,7 @@ use Rattle.command_words.specs.declared.job.Order.{Order}
 use Rattle.command_words.specs.declared.job.Order.TheVariants as order
 use Rattle.client_plans.specs.declared.stage.Goes.{Goes}
 use Rattle.client_plans.specs.declared.stage.Stage.{Stage}
-use Rattle.client_plans.specs.Plans.{Task, task_of, begins, operation_of, goes_on, after, status_at}
+use Rattle.client_plans.specs.Plans.{Task, task_of, begins, operation_of, goes_by, goes_on, room_at, after, status_at}
 use Rattle.client_jobs.specs.Content.{pattern_from}
 use Rattle.client_jobs.specs.Limits.{fits_call, unasked}
 use Rattle.client_jobs.specs.declared.running.Advanced.{Advanced}
@@ -96,14 +96,20 @@ abbrev pub put_in : Order → Option (Option ℕ)
 put_in (order.Put path pattern lies stripe) = Some pattern
 put_in _ = None
 
--- What `put` writes: the source, to its end, or the pattern. No other command takes of the source.
-abbrev pub IsPutContent : Option (Option ℕ) → Option (List ℕ) → Option (List ℕ) → List ℕ → Type 0
-IsPutContent None before after bytes = (bytes ≡ []) × (after ≡ before)
-IsPutContent (Some None) before after bytes = Takes before after bytes × IsAtEnd after
-IsPutContent (Some (Some size)) before after bytes = (bytes ≡ pattern_from 0 size) × (after ≡ before)
+-- These are all the bytes of a source. What isn't told has any.
+abbrev pub AreAll : Option (List ℕ) → List ℕ → Type 0
+AreAll None bytes = Unit {0}
+AreAll (Some left) bytes = bytes ≡ left
 
-abbrev pub IsContent : Order → Option (List ℕ) → Option (List ℕ) → List ℕ → Type 0
-IsContent wish before after bytes = IsPutContent (put_in wish) before after bytes
+-- What `put` writes: all bytes of the source, of which so many were taken in the end, or the pattern. No other command takes of the
+-- source.
+abbrev pub IsPutContent : Option (Option ℕ) → Option (List ℕ) → Option (List ℕ) → List ℕ → ℕ → Type 0
+IsPutContent None before after bytes taken = (bytes ≡ []) × (after ≡ before)
+IsPutContent (Some None) before after bytes taken = AreAll before bytes × Takes before after (take taken bytes)
+IsPutContent (Some (Some size)) before after bytes taken = (bytes ≡ pattern_from 0 size) × (after ≡ before)
+
+abbrev pub IsContent : Order → Option (List ℕ) → Option (List ℕ) → List ℕ → ℕ → Type 0
+IsContent wish before after bytes taken = IsPutContent (put_in wish) before after bytes taken
 
 -- ---- its operations
 
@@ -112,8 +118,8 @@ pub record Command : Type 0 where
   pub task : Task
   pub tries : ℕ
 
-abbrev pub command_of : ClientJob → List ℕ → Command
-command_of job bytes = record { task = task_of job bytes; tries = job.who.tries }
+abbrev pub command_of : ClientJob → Command
+command_of job = record { task = task_of job; tries = job.who.tries }
 
 -- how far it is: what its calls are made by, and its stage
 pub record CommandState : Type 0 where
@@ -136,20 +142,20 @@ pub record HasOperated (c : Command) (before after : Around) (s : CommandState) 
   pub carried : HasCarried (call_in s.session asked c.tries) before after left.driver left.client
   pub result : rows.result_in left.client.state.made ≡ Some ended
 
--- So many operations were carried out, one after the other, each that of its stage; this is what they came to, and what is to be
--- written.
-pub data Runs (c : Command) (from : Around) (start : CommandState) : ℕ → Around → CommandState → List ℕ → Type 0 where
-  begun : Runs c from start 0 from start []
-  carried : (count : ℕ) (between after : Around) (s : CommandState) (text : List ℕ) (left : CommandSession) (ended : CallResult)
-      → Runs c from start count between s text → HasOperated c between after s left ended
-      → Runs c from start (count + 1) after (record { session = left; stage = (goes_on c.task s.stage ended).stage })
-      (text ++ (goes_on c.task s.stage ended).text)
+-- So many operations were carried out, one after the other, each that of its stage, by a command that writes these bytes; this is what
+-- they came to, how many of the bytes were taken, and what is to be written to the output.
+pub data Runs (c : Command) (bytes : List ℕ) (from : Around) (start : CommandState) : ℕ → Around → CommandState → ℕ → List ℕ → Type 0 where
+  begun : Runs c bytes from start 0 from start 0 []
+  carried : (count : ℕ) (between after : Around) (s : CommandState) (taken : ℕ) (text : List ℕ) (left : CommandSession) (ended : CallResult)
+      → Runs c bytes from start count between s taken text → HasOperated c between after s left ended
+      → Runs c bytes from start (count + 1) after (record { session = left; stage = (goes_on c.task bytes taken s.stage ended).stage })
+      (goes_on c.task bytes taken s.stage ended).taken (text ++ (goes_on c.task bytes taken s.stage ended).text)
 
 -- There are so many results that the plan comes to this by them.
-pub record IsPlanned (c : Command) (start s : CommandState) (count : ℕ) (text : List ℕ) : Type 0 where
+pub record IsPlanned (c : Command) (bytes : List ℕ) (start s : CommandState) (count taken : ℕ) (text : List ℕ) : Type 0 where
   pub results : List CallResult
   pub each : length results ≡ count
-  pub is : after c.task start.stage results ≡ record { stage = s.stage; text = text }
+  pub is : after c.task bytes 0 start.stage results ≡ record { stage = s.stage; taken = taken; text = text }
 
 -- ---- why it ends
 
@@ -179,19 +185,19 @@ pub record CannotOperate (c : Command) (before after : Around) (s : CommandState
 abbrev pub EndsAt : Command → Around → Around → CommandState → CommandSession → Status → Type 0
 EndsAt c before after s left why = CannotOperate c before after s left why ⊎ (why ≡ status.OutOfMemory)
 
--- what the operation of a stage comes to, where there is one: how the command goes on, or why it ends
+-- what the operation of a stage comes to, where there is one: how the command goes on, before a piece is taken, or why it ends
 abbrev pub HasStepped : Command → Around → Around → CommandState → CommandSession → Result (Option Goes) Status → Type 0
-HasStepped c before after s left (Ok (Some goes)) = (ended : CallResult) × HasOperated c before after s left ended × (goes ≡ goes_on c.task s.stage ended)
+HasStepped c before after s left (Ok (Some goes)) = (ended : CallResult) × HasOperated c before after s left ended × (goes ≡ goes_by c.task.wish s.stage ended)
 HasStepped c before after s left (Ok None) = (operation_of c.task s.stage ≡ None) × (after ≡ before) × (left ≡ s.session)
 HasStepped c before after s left (Err why) = EndsAt c before after s left why
 
 -- and once that is written which it writes
 abbrev pub HasAdvanced : Command → Around → Around → CommandState → Option (List ℕ) → Option (List ℕ) → CommandSession → Advanced → Type 0
 HasAdvanced c before after s held later left (to.On stage) =
-    (ended : CallResult) × HasOperated c before after s left ended × (stage ≡ (goes_on c.task s.stage ended).stage)
-    × Puts held later (goes_on c.task s.stage ended).text
+    (ended : CallResult) × HasOperated c before after s left ended × (stage ≡ (goes_by c.task.wish s.stage ended).stage)
+    × Puts held later (goes_by c.task.wish s.stage ended).text
 HasAdvanced c before after s held later left (to.Cut count) =
-    (ended : CallResult) × HasOperated c before after s left ended × PutsFront held later (goes_on c.task s.stage ended).text
+    (ended : CallResult) × HasOperated c before after s left ended × PutsFront held later (goes_by c.task.wish s.stage ended).text
 HasAdvanced c before after s held later left to.Over = (operation_of c.task s.stage ≡ None) × (after ≡ before) × (later ≡ held) × (left ≡ s.session)
 HasAdvanced c before after s held later left (to.Ends why) = EndsAt c before after s left why × (later ≡ held)
 
@@ -233,11 +239,10 @@ GoesOn _ = ⊥
 
 -- ---- the whole
 
--- its clock has been read once, and what `put` writes is known
-pub record Begins (job : ClientJob) (left rest : Option (List ℕ)) (to_read unread : Option (List ℕ)) (session : CommandSession) (bytes : List ℕ) : Type 0 where
+-- its clock has been read once
+pub record Begins (job : ClientJob) (to_read unread : Option (List ℕ)) (session : CommandSession) : Type 0 where
   pub reading : ℕ
   pub reads : Reads to_read unread (reading ∷ [])
-  pub content : IsContent job.order left rest bytes
   pub knows : session.driver ≡ driver_of job reading
   pub starts : session.client ≡ client_of job (first_number reading)
 
@@ -246,15 +251,15 @@ abbrev pub starts_in : ClientJob → CommandSession → CommandState
 starts_in job session = record { session = session; stage = begins job.order }
 
 -- So many operations were carried out, and what they were to write was put.
-pub record IsUnderWay (c : Command) (from : Around) (start : CommandState) (held : Option (List ℕ)) (count : ℕ) (now : Around) (s : CommandState)
-    (later : Option (List ℕ)) : Type 0 where
+pub record IsUnderWay (c : Command) (bytes : List ℕ) (from : Around) (start : CommandState) (held : Option (List ℕ)) (count : ℕ) (now : Around)
+    (s : CommandState) (taken : ℕ) (later : Option (List ℕ)) : Type 0 where
   pub text : List ℕ
-  pub runs : Runs c from start count now s text
+  pub runs : Runs c bytes from start count now s taken text
   pub puts : Puts held later text
 
--- neither the link nor the clock failed
+-- neither the link nor the clock nor the source failed
 abbrev pub IsSound : Counts → Counts → Type 0
-IsSound before now = (now.link ≡ before.link) × (now.clock ≡ before.clock)
+IsSound before now = (now.link ≡ before.link) × (now.clock ≡ before.clock) × (now.source ≡ before.source)
 
 -- A stage has no operation; or its operation isn't carried out, or memory runs out over what it writes; or as many were carried out as
 -- a client has numbers.
@@ -264,69 +269,108 @@ EndsBy c count between after s left before now why =
     ⊎ ((EndsAt c between after s left why × HasWhy before now why)
     ⊎ ((count ≡ 2 ^ 62) × (why ≡ status_of error.NumbersSpent) × (after ≡ between) × (left ≡ s.session) × IsSound before now))
 
--- Its operations came to an end, for this reason: what they were to write, and what they left.
-pub record Ends (c : Command) (from after : Around) (start : CommandState) (left : CommandSession) (before now : Counts) (why : Status) (text : List ℕ) : Type 0 where
+-- Its operations came to an end, for this reason: what they were to write, how many of its bytes were taken, and what they left.
+pub record Ends (c : Command) (bytes : List ℕ) (from after : Around) (start : CommandState) (left : CommandSession) (before now : Counts) (why : Status)
+    (taken : ℕ) (text : List ℕ) : Type 0 where
   pub count : ℕ
   pub between : Around
   pub s : CommandState
-  pub runs : Runs c from start count between s text
+  pub runs : Runs c bytes from start count between s taken text
   pub ends : EndsBy c count between after s left before now why
 
 -- How its operations end: what they were to write was put, and the last line of the status after it; or the sink failed over a front
 -- of what they were to write; or as many were carried out as a client has numbers.
-pub record HasEnded (c : Command) (from after : Around) (start : CommandState) (left : CommandSession) (held later : Option (List ℕ)) (sink risen : ℕ)
-    (before now : Counts) (ended : Status) : Type 0 where
+pub record HasEnded (c : Command) (bytes : List ℕ) (from after : Around) (start : CommandState) (left : CommandSession) (held later : Option (List ℕ))
+    (sink risen : ℕ) (before now : Counts) (taken : ℕ) (said : Status) : Type 0 where
   pub why : Status
   pub text : List ℕ
-  pub ends : Ends c from after start left before now why text
+  pub ends : Ends c bytes from after start left before now why taken text
   pub put : Option (List ℕ)
   pub puts : Puts held put text
-  pub closes : Closes put later sink risen why ended
+  pub closes : Closes put later sink risen why said
 
-pub record IsCut (c : Command) (from after : Around) (start : CommandState) (left : CommandSession) (held later : Option (List ℕ)) (sink risen : ℕ)
-    (before now : Counts) (ended : Status) : Type 0 where
+-- The sink failed over what the last operation was to write, before a piece was taken after it.
+pub record IsCut (c : Command) (bytes : List ℕ) (from after : Around) (start : CommandState) (left : CommandSession) (held later : Option (List ℕ))
+    (sink risen : ℕ) (before now : Counts) (taken : ℕ) (said : Status) : Type 0 where
   pub count : ℕ
-  pub stage : Stage
+  pub between : Around
+  pub s : CommandState
   pub text : List ℕ
-  pub runs : Runs c from start count after (record { session = left; stage = stage }) text
-  pub puts : PutsFront held later text
+  pub runs : Runs c bytes from start count between s taken text
+  pub ended : CallResult
+  pub operated : HasOperated c between after s left ended
+  pub puts : PutsFront held later (text ++ (goes_by c.task.wish s.stage ended).text)
   pub times : ℕ
-  pub is : ended ≡ status.SinkFault times
+  pub is : said ≡ status.SinkFault times
   pub rose : Rose sink risen
   pub told : times ≡ risen
   pub sound : IsSound before now
 
-abbrev pub HasWorked : Command → Around → Around → CommandState → CommandSession → Option (List ℕ) → Option (List ℕ) → ℕ → ℕ → Counts → Counts → Status → Type 0
-HasWorked c from after start left held later sink risen before now ended =
-    HasEnded c from after start left held later sink risen before now ended ⊎ IsCut c from after start left held later sink risen before now ended
+-- why a piece isn't taken for which there is so much room: the source fails, where the piece is one of its bytes, or memory runs out
+abbrev pub CannotTake : Order → ℕ → Status → Type 0
+CannotTake wish room (status.SourceFault count) = (put_in wish ≡ Some None) × (1 ≤ room)
+CannotTake wish room status.OutOfMemory = Unit {0}
+CannotTake wish room _ = ⊥
 
--- why it ends before its first operation: the link can't be bound, the clock can't be read, the source can't, or memory runs out
+-- The piece after the last operation wasn't taken, or in part. Nothing was sent or received for it, and what the operations were to
+-- write was put, and the last line of the status after it.
+pub record IsUnfed (c : Command) (bytes : List ℕ) (from after : Around) (start : CommandState) (left : CommandSession) (held later : Option (List ℕ))
+    (sink risen : ℕ) (before now : Counts) (taken : ℕ) (said : Status) : Type 0 where
+  pub count : ℕ
+  pub between : Around
+  pub s : CommandState
+  pub drawn : ℕ
+  pub text : List ℕ
+  pub runs : Runs c bytes from start count between s drawn text
+  pub ended : CallResult
+  pub operated : HasOperated c between after s left ended
+  pub least : drawn ≤ taken
+  pub most : taken ≤ drawn + room_at drawn (goes_by c.task.wish s.stage ended).stage
+  pub why : Status
+  pub cannot : CannotTake c.task.wish (room_at drawn (goes_by c.task.wish s.stage ended).stage) why
+  pub cause : HasWhy before now why
+  pub put : Option (List ℕ)
+  pub puts : Puts held put (text ++ (goes_by c.task.wish s.stage ended).text)
+  pub closes : Closes put later sink risen why said
+
+-- A command that writes these bytes carried its operations out, and so many of the bytes were taken.
+abbrev pub HasWorked : Command → List ℕ → Around → Around → CommandState → CommandSession → Option (List ℕ) → Option (List ℕ) → ℕ → ℕ → Counts → Counts → ℕ → Status → Type 0
+HasWorked c bytes from after start left held later sink risen before now taken said =
+    HasEnded c bytes from after start left held later sink risen before now taken said
+    ⊎ (IsCut c bytes from after start left held later sink risen before now taken said
+    ⊎ IsUnfed c bytes from after start left held later sink risen before now taken said)
+
+-- why it ends before its first operation: the link can't be bound, the clock can't be read, or memory runs out
 abbrev pub IsEarly : Status → Type 0
 IsEarly (status.LinkFault count) = Unit {0}
 IsEarly (status.ClockFault count) = Unit {0}
-IsEarly (status.SourceFault count) = Unit {0}
 IsEarly status.OutOfMemory = Unit {0}
 IsEarly _ = ⊥
 
--- it ends so
-pub record EndsEarly (after : Around) (before : Around) (held later : Option (List ℕ)) (sink risen : ℕ) (counts now : Counts) (ended : Status) : Type 0 where
+-- it ends so, and nothing of the source was taken
+pub record EndsEarly (after : Around) (before : Around) (left rest held later : Option (List ℕ)) (sink risen : ℕ) (counts now : Counts) (ended : Status)
+    : Type 0 where
   pub quiet : (after.to_come ≡ before.to_come) × (after.sent ≡ before.sent) × (after.losses ≡ before.losses)
+  pub whole : rest ≡ left
   pub why : Status
   pub early : IsEarly why
   pub cause : HasWhy counts now why
   pub closes : Closes held later sink risen why ended
 
+-- It began, and carried its operations out. What it writes is taken of the source piece by piece, each piece before its operation.
 pub record HasBegun (job : ClientJob) (before after : Around) (left rest held later : Option (List ℕ)) (sink risen : ℕ) (counts now : Counts) (ended : Status)
     : Type 0 where
-  pub bytes : List ℕ
   pub unread : Option (List ℕ)
   pub session : CommandSession
-  pub starts : Begins job left rest before.to_read unread session bytes
+  pub starts : Begins job before.to_read unread session
+  pub bytes : List ℕ
+  pub taken : ℕ
+  pub content : IsContent job.order left rest bytes taken
   pub leaves : CommandSession
-  pub works : HasWorked (command_of job bytes) (record before { to_read = unread }) after (starts_in job session) leaves held later sink risen
-      counts now ended
+  pub works : HasWorked (command_of job) bytes (record before { to_read = unread }) after (starts_in job session) leaves held later sink risen
+      counts now taken ended
 
 -- What a client command does.
 abbrev pub IsClientJob : ClientJob → Around → Around → Option (List ℕ) → Option (List ℕ) → Option (List ℕ) → Option (List ℕ) → ℕ → ℕ → Counts → Counts → Status → Type 0
 IsClientJob job before after left rest held later sink risen counts now ended =
-    EndsEarly after before held later sink risen counts now ended ⊎ HasBegun job before after left rest held later sink risen counts now ended
+    EndsEarly after before left rest held later sink risen counts now ended ⊎ HasBegun job before after left rest held later sink risen counts now ended

@@ -2,14 +2,12 @@
 ghost use Rattle.std.specs.Prelude.{◌≡◌, ◌≤◌, IfOk};
 ghost use Rattle.client_plans.specs.Plans as plan;
 ghost use Rattle.client_plans.specs.Plans.{operation_of, task_of, end_of};
-ghost use Rattle.client_jobs.specs.Content.{bytes_of};
 
-use crate::content::Content;
 use crate::pieces::{end_in, object_size, piece_length, place_of};
 use client_plans::Stage;
 use command_words::{ClientJob, Layout, Order, Who};
 use std::alloc::Global;
-use xt_base::{Address, Copies, Name, NodeId, OutOfMemory};
+use xt_base::{Address, Copies, Name, NodeId, Octets, OutOfMemory};
 use xt_messages::{Call, Capability, Kind, MetaReq, RegistryReq};
 
 /// What the commands ask that have one metadata call.
@@ -174,20 +172,17 @@ fn set_of(alloc: Global, order: &Order, version: u64) -> Result<Option<Call>, Ou
     }
 }
 
-/// The write of the piece at this place.
+/// The write of a piece that begins at this place.
 fn write_of(
     alloc: Global,
-    content: &Content,
     capability: &Capability,
-    done: u64,
+    from: u64,
+    piece: &Octets,
 ) -> Result<Option<Call>, OutOfMemory>
-    ensures { IfOk result (λ call.
-        call ≡ plan.write_of (bytes_of content.now) capability.now done) }
+    ensures { IfOk result (λ call. call ≡ plan.write_of capability.now from piece.now) }
 {
-    let stripe = object_size(capability);
-    let (object, at) = place_of(stripe, done);
-    let count = piece_length(stripe, done, content.size());
-    let bytes = content.piece(alloc, done, count)?;
+    let (object, at) = place_of(object_size(capability), from);
+    let bytes = piece.copy(alloc)?;
     Ok(Some(Call::Write {
         file: capability.file.number,
         object,
@@ -268,12 +263,10 @@ fn request_of(alloc: Global, order: &Order, stage: &Stage) -> Result<Option<Meta
 pub fn operation_of(
     alloc: Global,
     job: &ClientJob,
-    content: &Content,
     stage: &Stage,
 ) -> Result<Option<Call>, OutOfMemory>
     requires { end_of job.now.order ≤ 281474976710656 }
-    ensures { IfOk result (λ call.
-        call ≡ operation_of (task_of job.now (bytes_of content.now)) stage.now) }
+    ensures { IfOk result (λ call. call ≡ operation_of (task_of job.now) stage.now) }
 {
     match stage {
         Stage::Lists { kind, above } => Ok(rows_above(*kind, *above)),
@@ -285,9 +278,10 @@ pub fn operation_of(
         }
         Stage::Writes {
             capability,
-            done,
+            from,
+            piece,
             ..
-        } => write_of(alloc, content, capability, *done),
+        } => write_of(alloc, capability, *from, piece),
         Stage::Reads {
             capability,
             from,
@@ -295,6 +289,6 @@ pub fn operation_of(
         } => Ok(read_of(&job.order, capability, *from)),
         Stage::Truncates { capability, .. } => Ok(truncate_of(&job.order, capability)),
         Stage::Reports { capability, .. } => Ok(report_of(&job.who, capability)),
-        Stage::Over { .. } => Ok(None),
+        Stage::Fetches { .. } | Stage::Over { .. } => Ok(None),
     }
 }

@@ -2,6 +2,7 @@
 ghost use Rattle.std.specs.Prelude.{◌≡◌, ◌≤◌, ◌<◌, ◌^◌, [], IfOk};
 ghost use Rattle.client_plans.specs.Plans as plan;
 ghost use Rattle.client_plans.specs.Plans.{goes_by, end_in, end_of};
+ghost use Rattle.client_plans.specs.declared.stage.Stage.TheVariants as next;
 
 use crate::pieces::{end_in, first_in, object_size, piece_length, place_of};
 use crate::showing::{lines_of, number_line, push_line_end, row_line, shown_as};
@@ -82,20 +83,12 @@ fn main_stage(alloc: Global, order: &Order) -> Result<Stage, OutOfMemory>
     }
 }
 
-/// The next piece of a file of so many bytes is written, or its size is reported.
-fn write_on(size: u64, capability: &Capability, done: u64, mark: SizeMark) -> Stage
-    ensures { result ≡ plan.write_on size capability.now done mark }
+/// The next piece of what is written comes.
+fn fetch_on(alloc: Global, capability: &Capability, mark: SizeMark) -> Goes
+    ensures { result ≡ plan.goes_to (next.Fetches capability.now mark) }
 {
     let capability = *capability;
-    if done < size {
-        Stage::Writes {
-            capability,
-            done,
-            mark,
-        }
-    } else {
-        Stage::Reports { capability, mark }
-    }
+    goes_to(alloc, Stage::Fetches { capability, mark })
 }
 
 /// Whether the piece at this place is asked for.
@@ -140,17 +133,16 @@ fn read_on(
 /// A capability was granted.
 fn granted_to(
     alloc: Global,
-    size: u64,
     order: &Order,
     capability: &Capability,
     mark: SizeMark,
 ) -> Result<Goes, OutOfMemory>
     requires { end_of order.now ≤ 281474976710656 }
     ensures { IfOk result (λ goes.
-        goes ≡ plan.granted_to size order.now capability.now mark) }
+        goes ≡ plan.granted_to order.now capability.now mark) }
 {
     match order {
-        Order::Put { .. } => Ok(goes_to(alloc, write_on(size, capability, 0, mark))),
+        Order::Put { .. } => Ok(fetch_on(alloc, capability, mark)),
         Order::Get { range, hex, .. } => read_on(
             alloc,
             *range,
@@ -168,22 +160,11 @@ fn granted_to(
 }
 
 /// A piece was written.
-fn written(
-    alloc: Global,
-    size: u64,
-    order: &Order,
-    capability: &Capability,
-    done: u64,
-    mark: SizeMark,
-) -> Goes
-    ensures { result ≡ plan.written size order.now capability.now done mark }
+fn written(alloc: Global, order: &Order, capability: &Capability, mark: SizeMark) -> Goes
+    ensures { result ≡ plan.written order.now capability.now mark }
 {
     match order {
-        Order::Put { .. } => {
-            let count = piece_length(object_size(capability), done, size);
-            let stage = write_on(size, capability, done + u64::from(count), mark);
-            goes_to(alloc, stage)
-        }
+        Order::Put { .. } => fetch_on(alloc, capability, mark),
         _ => ends(alloc),
     }
 }
@@ -221,7 +202,6 @@ fn was_read(
 /// An operation on a file was done.
 fn done_at(
     alloc: Global,
-    size: u64,
     order: &Order,
     stage: &Stage,
     learnt: SizeMark,
@@ -229,17 +209,14 @@ fn done_at(
 ) -> Result<Goes, OutOfMemory>
     requires { end_of order.now ≤ 281474976710656 }
     ensures { IfOk result (λ goes.
-        goes ≡ plan.done_at size order.now stage.now learnt bytes.now) }
+        goes ≡ plan.done_at order.now stage.now learnt bytes.now) }
 {
     match stage {
         Stage::Writes {
             capability,
-            done,
             mark,
-        } => {
-            let mark = merge(*mark, learnt);
-            Ok(written(alloc, size, order, capability, *done, mark))
-        }
+            ..
+        } => Ok(written(alloc, order, capability, merge(*mark, learnt))),
         Stage::Reads {
             capability,
             from,
@@ -305,19 +282,12 @@ fn created(alloc: Global, answer: &MetaAnswer) -> Goes
 }
 
 /// A capability was asked for.
-fn granted(
-    alloc: Global,
-    size: u64,
-    order: &Order,
-    answer: &MetaAnswer,
-) -> Result<Goes, OutOfMemory>
+fn granted(alloc: Global, order: &Order, answer: &MetaAnswer) -> Result<Goes, OutOfMemory>
     requires { end_of order.now ≤ 281474976710656 }
-    ensures { IfOk result (λ goes. goes ≡ plan.granted size order.now answer.now) }
+    ensures { IfOk result (λ goes. goes ≡ plan.granted order.now answer.now) }
 {
     match answer {
-        MetaAnswer::Granted { capability, mark } => {
-            granted_to(alloc, size, order, capability, *mark)
-        }
+        MetaAnswer::Granted { capability, mark } => { granted_to(alloc, order, capability, *mark) }
         _ => Ok(ends(alloc)),
     }
 }
@@ -366,17 +336,16 @@ fn shown(alloc: Global, answer: &MetaAnswer) -> Result<Goes, OutOfMemory>
 /// The MRC answered, and refused nothing.
 fn accepted(
     alloc: Global,
-    size: u64,
     order: &Order,
     stage: &Stage,
     answer: &MetaAnswer,
 ) -> Result<Goes, OutOfMemory>
     requires { end_of order.now ≤ 281474976710656 }
     ensures { IfOk result (λ goes.
-        goes ≡ plan.accepted size order.now stage.now answer.now) }
+        goes ≡ plan.accepted order.now stage.now answer.now) }
 {
     match stage {
-        Stage::Grants => granted(alloc, size, order, answer),
+        Stage::Grants => granted(alloc, order, answer),
         Stage::Pages { .. } => listed(alloc, answer),
         Stage::Reports { mark, .. } => reported(alloc, order, *mark, answer),
         Stage::AsksOnce => shown(alloc, answer),
@@ -387,36 +356,34 @@ fn accepted(
 /// The MRC answered something else than a creation.
 fn unless_refused(
     alloc: Global,
-    size: u64,
     order: &Order,
     stage: &Stage,
     answer: &MetaAnswer,
 ) -> Result<Goes, OutOfMemory>
     requires { end_of order.now ≤ 281474976710656 }
     ensures { IfOk result (λ goes.
-        goes ≡ plan.unless_refused size order.now stage.now answer.now) }
+        goes ≡ plan.unless_refused order.now stage.now answer.now) }
 {
     match answer {
         MetaAnswer::Refused { refusal } => Ok(refused(alloc, Refusal::Meta { refusal: *refusal })),
-        _ => accepted(alloc, size, order, stage, answer),
+        _ => accepted(alloc, order, stage, answer),
     }
 }
 
 /// The MRC answered.
 fn answered(
     alloc: Global,
-    size: u64,
     order: &Order,
     stage: &Stage,
     answer: &MetaAnswer,
 ) -> Result<Goes, OutOfMemory>
     requires { end_of order.now ≤ 281474976710656 }
     ensures { IfOk result (λ goes.
-        goes ≡ plan.answered size order.now stage.now answer.now) }
+        goes ≡ plan.answered order.now stage.now answer.now) }
 {
     match stage {
         Stage::Creates => Ok(created(alloc, answer)),
-        _ => unless_refused(alloc, size, order, stage, answer),
+        _ => unless_refused(alloc, order, stage, answer),
     }
 }
 
@@ -518,21 +485,20 @@ fn registered(
     }
 }
 
-/// How a command that asks for this, with so many bytes to write, goes on after the result of its operation.
+/// How a command that asks for this goes on after the result of its operation.
 #[tactic(auto, unfolding(client_plans::specs::Plans::goes_by))]
 pub fn goes_by(
     alloc: Global,
-    size: u64,
     order: &Order,
     stage: &Stage,
     ended: &CallResult,
 ) -> Result<Goes, OutOfMemory>
     requires { end_of order.now ≤ 281474976710656 }
-    ensures { IfOk result (λ goes. goes ≡ goes_by size order.now stage.now ended.now) }
+    ensures { IfOk result (λ goes. goes ≡ goes_by order.now stage.now ended.now) }
 {
     match ended {
         CallResult::Ok { mark, bytes, .. } => {
-            done_at(alloc, size, order, stage, *mark, bytes.as_slice())
+            done_at(alloc, order, stage, *mark, bytes.as_slice())
         }
         CallResult::Retry { answers } => {
             let answers = answers.copy(alloc)?;
@@ -544,7 +510,7 @@ pub fn goes_by(
             ))
         }
         CallResult::Refused { reply } => Ok(refused(alloc, Refusal::Ask { refusal: *reply })),
-        CallResult::Meta { answer } => answered(alloc, size, order, stage, answer),
+        CallResult::Meta { answer } => answered(alloc, order, stage, answer),
         CallResult::Registry { answer } => registered(alloc, order, stage, answer),
     }
 }

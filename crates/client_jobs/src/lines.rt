@@ -1,33 +1,19 @@
 //! A command of a session, from its start to its end, and the lists with which commands begin alone.
 ghost use Rattle.std.specs.Prelude.{◌≡◌, ◌≤◌, ℕ};
 ghost use Rattle.client_plans.specs.Plans.{end_of};
-ghost use Rattle.client_jobs.specs.Content.{bytes_of};
 ghost use Rattle.client_jobs.specs.Running.{put_in, client_of, CanAsk};
 ghost use Rattle.client_jobs.specs.Lines as spec;
-ghost use Rattle.client_jobs.specs.Lines.{IsLine, IsListed, bytes_put};
+ghost use Rattle.client_jobs.specs.Lines.{IsLine, IsListed};
 
-use crate::content::Content;
-use crate::running::{close, first_number, put_in, work, work_quietly};
+use crate::running::{close, first_number, work, work_quietly};
 use crate::session::{CommandSession, terms_after, terms_for};
 use client_core::Client;
 use client_plans::Stage;
 use command_words::{ClientJob, Defaults, Order};
 use node_links::{Clock, Link, Sink};
 use std::alloc::Global;
-use xt_base::{Address, NodeId, Octets};
+use xt_base::{Address, NodeId};
 use xt_messages::Status;
-
-/// What a command writes to a file that takes nothing of the source.
-fn pattern_in(alloc: Global, order: &Order) -> Content
-    ensures { bytes_of result ≡ bytes_put (put_in order.now) }
-{
-    match put_in(order) {
-        Some(Some(size)) => Content::Pattern { size },
-        _ => Content::Bytes {
-            bytes: Octets::new(alloc),
-        },
-    }
-}
 
 /// A client whose first call has this number.
 fn client_of(alloc: Global, job: &ClientJob, first: u64) -> Client
@@ -83,11 +69,10 @@ pub fn run_line<K: Sink, L: Link, C: Clock>(
         return close(alloc, out, Status::ClockFault { count });
     };
     let first = first_number(reading).max(session.client.next());
-    let content = pattern_in(alloc, &job.order);
     let kept = session.driver.terms();
     session.driver.set_terms(&terms_for(job, first, &kept));
     session.client = client_of(alloc, job, first);
-    let status = work(alloc, job, &content, session, out, link, clock);
+    let status = work(alloc, job, session, out, link, clock);
     let left = session.driver.terms();
     session.driver.set_terms(&terms_after(job, &kept, &left));
     status
@@ -147,12 +132,9 @@ pub fn run_lists<L: Link, C: Clock>(
 {
     let job = lists_alone(base);
     session.client = client_of(alloc, &job, session.client.next());
-    let content = Content::Bytes {
-        bytes: Octets::new(alloc),
-    };
     let first = Stage::Lists {
         kind: 2,
         above: NodeId(0),
     };
-    work_quietly(alloc, &job, &content, session, first, link, clock)
+    work_quietly(alloc, &job, session, first, link, clock)
 }

@@ -1,7 +1,10 @@
 //! Where the pieces of a file lie on its objects.
 ghost use Rattle.std.specs.Prelude.{◌≡◌, ◌≤◌, ◌+◌, ◌/◌, ◌%◌, max, Option, Some, None};
+ghost use Rattle.client_plans.specs.Plans as plan;
 ghost use Rattle.client_plans.specs.Plans.{object_size, piece_length, first_in, end_in};
 
+use client_plans::Stage;
+use xt_base::Octets;
 use xt_messages::Capability;
 
 /// The longest file, in bytes, and the end of what `get` shows where no range is named.
@@ -52,5 +55,39 @@ pub fn end_in(range: Option<(u64, u64)>) -> u64
     match range {
         None => FILE_END,
         Some((at, len)) => at + len,
+    }
+}
+
+/// How many bytes of what is written come next at most, where so many were taken before.
+pub fn room_at(taken: u64, stage: &Stage) -> u32
+    ensures { result ≡ plan.room_at taken stage.now }
+{
+    match stage {
+        Stage::Fetches { capability, .. } => {
+            let stripe = u64::from(object_size(capability));
+            (stripe - taken % stripe) as u32
+        }
+        _ => 0,
+    }
+}
+
+/// The stage once its piece was taken, after so many bytes.
+pub fn with_piece(taken: u64, piece: Octets, stage: Stage) -> Stage
+    ensures { result ≡ plan.with_piece taken piece stage }
+{
+    match stage {
+        Stage::Fetches { capability, mark } => {
+            if piece.as_slice().is_empty() {
+                Stage::Reports { capability, mark }
+            } else {
+                Stage::Writes {
+                    capability,
+                    from: taken,
+                    mark,
+                    piece,
+                }
+            }
+        }
+        stage => stage,
     }
 }

@@ -1,16 +1,19 @@
 //! A client command from its start to its end.
-ghost use Rattle.std.specs.Prelude.{◌≡◌, ◌≤◌, ◌<◌, ◌^◌, ◌∷◌, [], ℕ, List, IsSome, IfOk, IfErr, IfSome};
+ghost use Rattle.std.specs.Prelude.{◌≡◌, ◌≤◌, ◌<◌, ◌^◌, ◌∷◌, [], ℕ, List, Some, None, IsSome, IfOk, IfErr, IfSome, true, false, take};
+ghost use Rattle.node_links.specs.Streams.{Takes};
 ghost use Rattle.node_runs.specs.Links.{Reads};
 ghost use Rattle.client_plans.specs.Plans.{begins, end_of};
-ghost use Rattle.client_jobs.specs.Content.{bytes_of, HasReadCause};
+ghost use Rattle.client_jobs.specs.Content.{pattern_from, HasReadCause};
 ghost use Rattle.client_jobs.specs.Running as spec;
 ghost use Rattle.client_loop.specs.Carrying.{Around};
-ghost use Rattle.client_jobs.specs.Running.{Command, CommandState, Runs, IsPlanned, HasWhy, first_number, driver_of, client_of, IsContent, command_of, call_in, CannotCall, HasCalled, HasStepped, HasAdvanced, Ends, HasAdvanceCause, has_last_line, Closes, CanAsk, GoesOn, Begins, IsClientJob, HasWorked, starts_in, IsEarly};
+ghost use Rattle.client_jobs.specs.Lines.{bytes_put};
+ghost use Rattle.client_jobs.specs.Running.{Command, CommandState, Runs, IsPlanned, HasWhy, first_number, driver_of, client_of, AreAll, command_of, call_in, CannotCall, HasCalled, HasStepped, HasAdvanced, Ends, HasAdvanceCause, has_last_line, Closes, CanAsk, GoesOn, Begins, IsClientJob, HasWorked, starts_in, IsEarly, CannotTake};
 
 use crate::asking::operation_of;
-use crate::content::{Content, ReadErr, read_all};
+use crate::content::{PatternPieces, ReadErr, SourcePieces};
 use crate::going::goes_by;
 use crate::limits::{fits_call, unasked};
+use crate::pieces::{room_at, with_piece};
 use crate::session::CommandSession;
 use client_core::Client;
 use client_loop::{DriveErr, Driver};
@@ -21,13 +24,6 @@ use schedule_lines::{finish, put_all};
 use std::alloc::Global;
 use xt_base::{Address, Boot, COUNTS, NodeId, Octets};
 use xt_messages::{Call, Limited, Status};
-
-/// What a command begins with.
-#[derive(Drop)]
-struct Begun {
-    session: CommandSession,
-    content: Content,
-}
 
 /// What an operation came to.
 #[derive(Drop)]
@@ -79,9 +75,10 @@ pub fn status_of(error: DriveErr) -> Status
     }
 }
 
-/// The status of a source that isn't read to its end.
+/// The status of a piece of the source that isn't taken.
 fn unread(error: ReadErr) -> Status
-    ensures early { IsEarly result }
+    ensures cannot { (wish : Order) (room : ℕ) → spec.put_in wish ≡ Some None → 1 ≤ room →
+        CannotTake wish room result }
     ensures cause { (link clock : ℕ) (before later : ℕ) → HasReadCause before later error →
         HasWhy (record { link = link; clock = clock; source = before })
         (record { link = link; clock = clock; source = later }) result }
@@ -93,7 +90,7 @@ fn unread(error: ReadErr) -> Status
 }
 
 /// Whether a command writes to a file, and how many bytes of the pattern, if not those of the source.
-pub(crate) fn put_in(order: &Order) -> Option<Option<u64>>
+fn put_in(order: &Order) -> Option<Option<u64>>
     ensures { result ≡ spec.put_in order.now }
 {
     match order {
@@ -102,25 +99,14 @@ pub(crate) fn put_in(order: &Order) -> Option<Option<u64>>
     }
 }
 
-/// What a command writes to a file.
-fn content_of<S: Source>(alloc: Global, order: &Order, src: &mut S) -> Result<Content, Status>
-    ensures content { IfOk result (λ content.
-        IsContent order.now (S.left src.old) (S.left src.new) (bytes_of content)) }
-    ensures sound { IfOk result (λ content. S.fault_count src.new ≡ S.fault_count src.old) }
-    ensures early { IfErr result IsEarly }
-    ensures cause { (link clock : ℕ) → IfErr result (HasWhy
-        (record { link = link; clock = clock; source = S.fault_count src.old })
-        (record { link = link; clock = clock; source = S.fault_count src.new })) }
+/// How many bytes of the pattern a command writes to a file: none where it writes those of the source, or nothing.
+#[tactic(auto, unfolding(crate::specs::Content::pattern_from))]
+fn pattern_size(order: &Order) -> u64
+    ensures { pattern_from 0 result ≡ bytes_put (spec.put_in order.now) }
 {
     match put_in(order) {
-        None => Ok(Content::Bytes {
-            bytes: Octets::new(alloc),
-        }),
-        Some(Some(size)) => Ok(Content::Pattern { size }),
-        Some(None) => match read_all(alloc, src) {
-            Ok(bytes) => Ok(Content::Bytes { bytes }),
-            Err(error) => Err(unread(error)),
-        },
+        Some(Some(size)) => size,
+        Some(None) | None => 0,
     }
 }
 
@@ -194,47 +180,41 @@ fn opened<L: Link, C: Clock>(
     Ok(reading)
 }
 
-/// Takes an address for the link, reads the clock, and then reads what `put` writes.
-fn begin<S: Source, L: Link, C: Clock>(
+/// Takes an address for the link, and reads the clock.
+fn begin<L: Link, C: Clock>(
     alloc: Global,
     job: &ClientJob,
-    src: &mut S,
     link: &mut L,
     clock: &mut C,
-) -> Result<Begun, Status>
+) -> Result<CommandSession, Status>
     requires dir { IsSome job.now.dir }
     requires turns { job.now.settings.turns < 2 ^ 62 }
     ensures link { (L.given link.new ≡ L.given link.old) × (L.sent link.new ≡ L.sent link.old)
         × (L.loss_count link.new ≡ L.loss_count link.old) }
-    ensures begins { IfOk result (λ begun. Begins job.now (S.left src.old) (S.left src.new)
-        (C.readings clock.old) (C.readings clock.new) begun.session (bytes_of begun.content)) }
-    ensures asks { IfOk result (λ begun. CanAsk begun.session.client) }
-    ensures sound { IfOk result (λ begun. (L.fault_count link.new ≡ L.fault_count link.old)
-        × (C.fault_count clock.new ≡ C.fault_count clock.old)
-        × (S.fault_count src.new ≡ S.fault_count src.old)) }
+    ensures begins { IfOk result (λ session. Begins job.now (C.readings clock.old)
+        (C.readings clock.new) session) }
+    ensures asks { IfOk result (λ session. CanAsk session.client) }
+    ensures sound { IfOk result (λ session. (L.fault_count link.new ≡ L.fault_count link.old)
+        × (C.fault_count clock.new ≡ C.fault_count clock.old)) }
     ensures early { IfErr result IsEarly }
-    ensures cause { IfErr result (HasWhy
+    ensures cause { (source : ℕ) → IfErr result (HasWhy
         (record {
           link = L.fault_count link.old;
           clock = C.fault_count clock.old;
-          source = S.fault_count src.old;
+          source = source;
         })
         (record {
           link = L.fault_count link.new;
           clock = C.fault_count clock.new;
-          source = S.fault_count src.new;
+          source = source;
         })) }
 {
     let reading = match opened(&job.dir, link, clock) {
         Ok(reading) => reading,
         Err(status) => return Err(status),
     };
-    let content = match content_of(alloc, &job.order, src) {
-        Ok(content) => content,
-        Err(status) => return Err(status),
-    };
     match session_of(alloc, job, reading) {
-        Some(session) => Ok(Begun { session, content }),
+        Some(session) => Ok(session),
         None => Err(Status::OutOfMemory),
     }
 }
@@ -304,11 +284,10 @@ fn operate<L: Link, C: Clock>(
     }
 }
 
-/// Carries out the operation of a stage: how the command goes on then. The stage may have none.
+/// Carries out the operation of a stage: how the command goes on then, before a piece is taken. The stage may have none.
 pub(crate) fn step<L: Link, C: Clock>(
     alloc: Global,
     job: &ClientJob,
-    content: &Content,
     session: &mut CommandSession,
     stage: &Stage,
     link: &mut L,
@@ -318,7 +297,7 @@ pub(crate) fn step<L: Link, C: Clock>(
     requires asks { CanAsk session.old.client }
     ensures asks { IfOk result (λ goes. CanAsk session.new.client) }
     ensures turns { session.new.driver.listener.turns ≡ session.old.driver.listener.turns }
-    ensures stepped { HasStepped (command_of job.now (bytes_of content.now))
+    ensures stepped { HasStepped (command_of job.now)
         (record {
           to_come = L.given link.old;
           sent = L.sent link.old;
@@ -346,7 +325,7 @@ pub(crate) fn step<L: Link, C: Clock>(
     ensures sound { IfOk result (λ goes. (L.fault_count link.new ≡ L.fault_count link.old)
         × (C.fault_count clock.new ≡ C.fault_count clock.old)) }
 {
-    let call = match operation_of(alloc, job, content, stage) {
+    let call = match operation_of(alloc, job, stage) {
         Ok(Some(call)) => call,
         Ok(None) => return Ok(None),
         Err(_) => return Err(Status::OutOfMemory),
@@ -358,7 +337,7 @@ pub(crate) fn step<L: Link, C: Clock>(
     let Some(ended) = session.client.result() else {
         unreachable!()
     };
-    match goes_by(alloc, content.size(), &job.order, stage, ended) {
+    match goes_by(alloc, &job.order, stage, ended) {
         Ok(goes) => Ok(Some(goes)),
         Err(_) => Err(Status::OutOfMemory),
     }
@@ -390,7 +369,6 @@ pub fn close<K: Sink>(alloc: Global, out: &mut K, status: Status) -> Status
 fn advance<K: Sink, L: Link, C: Clock>(
     alloc: Global,
     job: &ClientJob,
-    content: &Content,
     session: &mut CommandSession,
     stage: &Stage,
     out: &mut K,
@@ -401,7 +379,7 @@ fn advance<K: Sink, L: Link, C: Clock>(
     requires asks { CanAsk session.old.client }
     ensures asks { GoesOn result → CanAsk session.new.client }
     ensures turns { session.new.driver.listener.turns ≡ session.old.driver.listener.turns }
-    ensures advanced { HasAdvanced (command_of job.now (bytes_of content.now))
+    ensures advanced { HasAdvanced (command_of job.now)
         (record {
           to_come = L.given link.old;
           sent = L.sent link.old;
@@ -429,7 +407,7 @@ fn advance<K: Sink, L: Link, C: Clock>(
         })
         (K.fault_count out.old) (K.fault_count out.new) result }
 {
-    let goes = match step(alloc, job, content, session, stage, link, clock) {
+    let goes = match step(alloc, job, session, stage, link, clock) {
         Ok(Some(goes)) => goes,
         Ok(None) => return Advanced::Over,
         Err(status) => return Advanced::Ends { status },
@@ -442,11 +420,10 @@ fn advance<K: Sink, L: Link, C: Clock>(
     }
 }
 
-/// Carries out the operations of a command, from its first stage on, and puts the last line of its status.
+/// Carries out the operations of a command that takes nothing of a source, from its first stage on, and puts the last line of its status.
 pub(crate) fn work<K: Sink, L: Link, C: Clock>(
     alloc: Global,
     job: &ClientJob,
-    content: &Content,
     session: &mut CommandSession,
     out: &mut K,
     link: &mut L,
@@ -455,7 +432,8 @@ pub(crate) fn work<K: Sink, L: Link, C: Clock>(
     requires range { end_of job.now.order ≤ 281474976710656 }
     requires asks { CanAsk session.old.client }
     ensures turns { session.new.driver.listener.turns ≡ session.old.driver.listener.turns }
-    ensures worked { (source : ℕ) → HasWorked (command_of job.now (bytes_of content.now))
+    ensures worked { (source : ℕ) → (taken : ℕ)
+        × HasWorked (command_of job.now) (bytes_put (spec.put_in job.now.order))
         (record {
           to_come = L.given link.old;
           sent = L.sent link.old;
@@ -480,12 +458,16 @@ pub(crate) fn work<K: Sink, L: Link, C: Clock>(
           clock = C.fault_count clock.new;
           source = source;
         })
-        result }
+        taken result }
 {
+    let mut pieces = PatternPieces::new(pattern_size(&job.order));
     let mut stage = begins(&job.order);
     for _ in 0..COUNTS {
-        match advance(alloc, job, content, session, &stage, out, link, clock) {
-            Advanced::On { stage: next } => stage = next,
+        match advance(alloc, job, session, &stage, out, link, clock) {
+            Advanced::On { stage: next } => match pieces.feed(alloc, next) {
+                Ok(next) => stage = next,
+                Err(_) => return close(alloc, out, Status::OutOfMemory),
+            },
             Advanced::Over => return close(alloc, out, stage.into_status()),
             Advanced::Ends { status } => return close(alloc, out, status),
             Advanced::Cut { count } => return Status::SinkFault { count },
@@ -494,11 +476,72 @@ pub(crate) fn work<K: Sink, L: Link, C: Clock>(
     close(alloc, out, status_of(DriveErr::NumbersSpent))
 }
 
-/// Carries out the operations of a command, from this stage on, and leaves out what they are to write.
+/// Carries out the operations of a `put` of the source, from its first stage on, and puts the last line of its status. A piece of the
+/// source is taken before the operation that writes it.
+fn work_from<S: Source, K: Sink, L: Link, C: Clock>(
+    alloc: Global,
+    job: &ClientJob,
+    session: &mut CommandSession,
+    src: &mut S,
+    out: &mut K,
+    link: &mut L,
+    clock: &mut C,
+) -> Status
+    requires source { spec.put_in job.now.order ≡ Some None }
+    requires range { end_of job.now.order ≤ 281474976710656 }
+    requires asks { CanAsk session.old.client }
+    ensures { (bytes : List ℕ) × (taken : ℕ) × AreAll (S.left src.old) bytes
+        × Takes (S.left src.old) (S.left src.new) (take taken bytes)
+        × HasWorked (command_of job.now) bytes
+        (record {
+          to_come = L.given link.old;
+          sent = L.sent link.old;
+          losses = L.loss_count link.old;
+          to_read = C.readings clock.old;
+        })
+        (record {
+          to_come = L.given link.new;
+          sent = L.sent link.new;
+          losses = L.loss_count link.new;
+          to_read = C.readings clock.new;
+        })
+        (starts_in job.now session.old) session.new (K.held out.old) (K.held out.new)
+        (K.fault_count out.old) (K.fault_count out.new)
+        (record {
+          link = L.fault_count link.old;
+          clock = C.fault_count clock.old;
+          source = S.fault_count src.old;
+        })
+        (record {
+          link = L.fault_count link.new;
+          clock = C.fault_count clock.new;
+          source = S.fault_count src.new;
+        })
+        taken result }
+{
+    let mut pieces = SourcePieces::new();
+    let mut stage = begins(&job.order);
+    for _ in 0..COUNTS {
+        let next = match advance(alloc, job, session, &stage, out, link, clock) {
+            Advanced::On { stage: next } => next,
+            Advanced::Over => return close(alloc, out, stage.into_status()),
+            Advanced::Ends { status } => return close(alloc, out, status),
+            Advanced::Cut { count } => return Status::SinkFault { count },
+        };
+        let taken = pieces.taken;
+        match pieces.next(alloc, src, room_at(taken, &next)) {
+            Ok(piece) => stage = with_piece(taken, piece, next),
+            Err(error) => return close(alloc, out, unread(error)),
+        }
+    }
+    close(alloc, out, status_of(DriveErr::NumbersSpent))
+}
+
+/// Carries out the operations of a command that writes nothing to a file, from this stage on, and leaves out what they are to write to
+/// the output.
 pub(crate) fn work_quietly<L: Link, C: Clock>(
     alloc: Global,
     job: &ClientJob,
-    content: &Content,
     session: &mut CommandSession,
     first: Stage,
     link: &mut L,
@@ -506,7 +549,7 @@ pub(crate) fn work_quietly<L: Link, C: Clock>(
 ) -> Status
     requires range { end_of job.now.order ≤ 281474976710656 }
     requires asks { CanAsk session.old.client }
-    ensures { (source : ℕ) → (text : List ℕ) × Ends (command_of job.now (bytes_of content.now))
+    ensures { (source : ℕ) → (taken : ℕ) × (text : List ℕ) × Ends (command_of job.now) []
         (record {
           to_come = L.given link.old;
           sent = L.sent link.old;
@@ -530,12 +573,12 @@ pub(crate) fn work_quietly<L: Link, C: Clock>(
           clock = C.fault_count clock.new;
           source = source;
         })
-        result text }
+        result taken text }
 {
     let mut stage = first;
     for _ in 0..COUNTS {
-        match step(alloc, job, content, session, &stage, link, clock) {
-            Ok(Some(goes)) => stage = goes.stage,
+        match step(alloc, job, session, &stage, link, clock) {
+            Ok(Some(goes)) => stage = with_piece(0, Octets::new(alloc), goes.stage),
             Ok(None) => return stage.into_status(),
             Err(status) => return status,
         }
@@ -543,8 +586,19 @@ pub(crate) fn work_quietly<L: Link, C: Clock>(
     status_of(DriveErr::NumbersSpent)
 }
 
-/// Runs a client command that names the DIR: over the link, by the clock, with what the source has for `put` and what it writes
-/// put to the sink.
+/// Whether a command writes the bytes of the source to a file.
+fn reads_source(order: &Order) -> bool
+    ensures source { result ≡ true → spec.put_in order.now ≡ Some None }
+    ensures none { result ≡ false → spec.put_in order.now ≡ Some None → ⊥ }
+{
+    match put_in(order) {
+        Some(None) => true,
+        _ => false,
+    }
+}
+
+/// Runs a client command that names the DIR: over the link, by the clock, with what it writes to the output put to the sink. For `put`
+/// the source is read piece by piece, each piece before the operation that writes it.
 pub fn run_client<S: Source, K: Sink, L: Link, C: Clock>(
     alloc: Global,
     job: &ClientJob,
@@ -583,19 +637,20 @@ pub fn run_client<S: Source, K: Sink, L: Link, C: Clock>(
         })
         result }
 {
-    let begun = match begin(alloc, job, src, link, clock) {
-        Ok(begun) => begun,
+    let mut session = match begin(alloc, job, link, clock) {
+        Ok(session) => session,
         Err(status) => return close(alloc, out, status),
     };
-    let Begun {
-        mut session,
-        content,
-    } = begun;
-    work(alloc, job, &content, &mut session, out, link, clock)
+    if reads_source(&job.order) {
+        work_from(alloc, job, &mut session, src, out, link, clock)
+    } else {
+        work(alloc, job, &mut session, out, link, clock)
+    }
 }
 
 /// What a command does is its plan: by the results of its operations the plan comes to where the command is, and to what it writes.
 pub fn commands_keep_their_plans()
-    ensures { (c : Command) (from now : Around) (start s : CommandState) (count : ℕ) (text : List ℕ) →
-        Runs c from start count now s text → IsPlanned c start s count text }
+    ensures { (c : Command) (bytes : List ℕ) (from now : Around) (start s : CommandState)
+        (count taken : ℕ) (text : List ℕ) → Runs c bytes from start count now s taken text →
+        IsPlanned c bytes start s count taken text }
 {}

@@ -38,16 +38,15 @@ use Rattle.command_words.specs.declared.job.Order.TheVariants as order
 
 -- ---- a command
 
--- what is asked for, who asks, and the bytes that `put` writes
+-- what is asked for, and who asks
 pub record Task : Type 0 where
   pub wish : Order
   pub user : ℕ
   pub group : ℕ
-  pub bytes : List ℕ
 
--- what a client job asks for, where `put` writes these bytes
-abbrev pub task_of : ClientJob → List ℕ → Task
-task_of job bytes = record { wish = job.order; user = job.who.user; group = job.who.group; bytes = bytes }
+-- what a client job asks for
+abbrev pub task_of : ClientJob → Task
+task_of job = record { wish = job.order; user = job.who.user; group = job.who.group }
 
 abbrev pub goes_to : Stage → Goes
 goes_to stage = record { stage = stage; text = [] }
@@ -144,10 +143,6 @@ lines_of names = flat_map (λ name. name ++ 10 ∷ []) names
 
 -- ---- after a grant, and after a piece
 
--- A file's bytes, so many of them, are written piece by piece, and its size is reported after the last one. No bytes need no write.
-abbrev pub write_on : ℕ → Capability → ℕ → SizeMark → Stage
-write_on size cap done mark = if nat_lt done size then next.Writes cap done mark else next.Reports cap mark
-
 -- The piece of a read at this place is asked for while none was asked for yet, or the file's known size is above it.
 abbrev pub reads_on : Option (ℕ × ℕ) → Capability → ℕ → SizeMark → Bool
 reads_on range cap from mark =
@@ -159,16 +154,15 @@ read_on range hex cap from mark bytes =
     if reads_on range cap from mark then record { stage = next.Reads cap from mark; text = shown_as hex bytes }
     else ends_with (shown_as hex bytes ++ line_end hex)
 
-abbrev pub granted_to : ℕ → Order → Capability → SizeMark → Goes
-granted_to size (order.Put path pattern lies stripe) cap mark = goes_to (write_on size cap 0 mark)
-granted_to size (order.Get path range hex) cap mark = read_on range hex cap (first_in range) mark []
-granted_to size _ cap mark = goes_to (next.Truncates cap mark)
+abbrev pub granted_to : Order → Capability → SizeMark → Goes
+granted_to (order.Put path pattern lies stripe) cap mark = goes_to (next.Fetches cap mark)
+granted_to (order.Get path range hex) cap mark = read_on range hex cap (first_in range) mark []
+granted_to _ cap mark = goes_to (next.Truncates cap mark)
 
 -- a piece was written
-abbrev pub written : ℕ → Order → Capability → ℕ → SizeMark → Goes
-written size (order.Put path pattern lies stripe) cap done mark =
-    goes_to (write_on size cap (done + piece_length (object_size cap) done size) mark)
-written size _ cap done mark = ends_with []
+abbrev pub written : Order → Capability → SizeMark → Goes
+written (order.Put path pattern lies stripe) cap mark = goes_to (next.Fetches cap mark)
+written _ cap mark = ends_with []
 
 -- a piece was read
 abbrev pub was_read : Order → Capability → ℕ → SizeMark → List ℕ → Goes
@@ -176,11 +170,11 @@ was_read (order.Get path range hex) cap from mark bytes =
     read_on range hex cap (from + piece_length (object_size cap) from (end_in range)) mark bytes
 was_read _ cap from mark bytes = ends_with []
 
-abbrev pub done_at : ℕ → Order → Stage → SizeMark → List ℕ → Goes
-done_at size wish (next.Writes cap done mark) learnt bytes = written size wish cap done (merged mark learnt)
-done_at size wish (next.Reads cap from mark) learnt bytes = was_read wish cap from (merged mark learnt) bytes
-done_at size wish (next.Truncates cap mark) learnt bytes = goes_to (next.Reports cap (merged mark learnt))
-done_at size wish stage learnt bytes = ends_with []
+abbrev pub done_at : Order → Stage → SizeMark → List ℕ → Goes
+done_at wish (next.Writes cap from mark piece) learnt bytes = written wish cap (merged mark learnt)
+done_at wish (next.Reads cap from mark) learnt bytes = was_read wish cap from (merged mark learnt) bytes
+done_at wish (next.Truncates cap mark) learnt bytes = goes_to (next.Reports cap (merged mark learnt))
+done_at wish stage learnt bytes = ends_with []
 
 -- ---- after an answer of the MRC
 
@@ -209,9 +203,9 @@ created (told.Refused why) = refused (ends_by.Meta why)
 created _ = goes_to next.Grants
 
 -- what is answered to a request that isn't refused
-abbrev pub granted : ℕ → Order → MetaAnswer → Goes
-granted size wish (told.Granted cap mark) = granted_to size wish cap mark
-granted size wish _ = ends_with []
+abbrev pub granted : Order → MetaAnswer → Goes
+granted wish (told.Granted cap mark) = granted_to wish cap mark
+granted wish _ = ends_with []
 
 abbrev pub listed : MetaAnswer → Goes
 listed (told.Names names) = names_told names
@@ -225,20 +219,20 @@ abbrev pub shown : MetaAnswer → Goes
 shown (told.Row kind owner group mode mark) = ends_with (row_line kind owner group mode (row_mark kind mark))
 shown _ = ends_with []
 
-abbrev pub accepted : ℕ → Order → Stage → MetaAnswer → Goes
-accepted size wish next.Grants what = granted size wish what
-accepted size wish (next.Pages above) what = listed what
-accepted size wish (next.Reports cap mark) what = reported wish mark what
-accepted size wish next.AsksOnce what = shown what
-accepted size wish stage what = ends_with []
+abbrev pub accepted : Order → Stage → MetaAnswer → Goes
+accepted wish next.Grants what = granted wish what
+accepted wish (next.Pages above) what = listed what
+accepted wish (next.Reports cap mark) what = reported wish mark what
+accepted wish next.AsksOnce what = shown what
+accepted wish stage what = ends_with []
 
-abbrev pub unless_refused : ℕ → Order → Stage → MetaAnswer → Goes
-unless_refused size wish stage (told.Refused why) = refused (ends_by.Meta why)
-unless_refused size wish stage what = accepted size wish stage what
+abbrev pub unless_refused : Order → Stage → MetaAnswer → Goes
+unless_refused wish stage (told.Refused why) = refused (ends_by.Meta why)
+unless_refused wish stage what = accepted wish stage what
 
-abbrev pub answered : ℕ → Order → Stage → MetaAnswer → Goes
-answered size wish next.Creates what = created what
-answered size wish stage what = unless_refused size wish stage what
+abbrev pub answered : Order → Stage → MetaAnswer → Goes
+answered wish next.Creates what = created what
+answered wish stage what = unless_refused wish stage what
 
 -- ---- after an answer of the DIR
 
@@ -277,17 +271,42 @@ registered wish stage _ = ends_with []
 
 -- ---- how a command goes on
 
--- How a command that asks for this, with so many bytes to write, goes on after the result of its operation. An operation that ends
--- otherwise than it should ends the command.
-unfoldable pub goes_by : ℕ → Order → Stage → CallResult → Goes
-goes_by size wish stage (how.Ok count mark bytes) = done_at size wish stage mark bytes
-goes_by size wish stage (how.Retry answers) = goes_to (next.Over (status.Retry answers))
-goes_by size wish stage (how.Refused why) = refused (ends_by.Ask why)
-goes_by size wish stage (how.Meta what) = answered size wish stage what
-goes_by size wish stage (how.Registry what) = registered wish stage what
+-- How a command that asks for this goes on after the result of its operation. An operation that ends otherwise than it should ends the
+-- command.
+unfoldable pub goes_by : Order → Stage → CallResult → Goes
+goes_by wish stage (how.Ok count mark bytes) = done_at wish stage mark bytes
+goes_by wish stage (how.Retry answers) = goes_to (next.Over (status.Retry answers))
+goes_by wish stage (how.Refused why) = refused (ends_by.Ask why)
+goes_by wish stage (how.Meta what) = answered wish stage what
+goes_by wish stage (how.Registry what) = registered wish stage what
 
-abbrev pub goes_on : Task → Stage → CallResult → Goes
-goes_on task stage result = goes_by (length task.bytes) task.wish stage result
+-- How many bytes of what `put` writes come next at most, where so many were taken before: up to the end of an object. No other stage
+-- takes any.
+abbrev pub room_at : ℕ → Stage → ℕ
+room_at taken (next.Fetches cap mark) = object_size cap - taken % object_size cap
+room_at taken stage = 0
+
+-- the piece of these bytes that is taken then
+abbrev pub piece_at : List ℕ → ℕ → Stage → List ℕ
+piece_at bytes taken stage = take (room_at taken stage) (drop taken bytes)
+
+-- The piece is written; where nothing is left, the file's size is reported. So no bytes need no write.
+abbrev pub with_piece : ℕ → List ℕ → Stage → Stage
+with_piece taken piece (next.Fetches cap mark) = if length piece == 0 then next.Reports cap mark else next.Writes cap taken mark piece
+with_piece taken piece stage = stage
+
+-- how far a command is: its stage, how many of the bytes that `put` writes were taken, and what was written
+pub record Progress : Type 0 where
+  pub stage : Stage
+  pub taken : ℕ
+  pub text : List ℕ
+
+-- how a command goes on that writes these bytes, of which so many were taken
+abbrev pub goes_on : Task → List ℕ → ℕ → Stage → CallResult → Progress
+goes_on task bytes taken stage result =
+    let went = goes_by task.wish stage result in
+    let piece = piece_at bytes taken went.stage in
+    record { stage = with_piece taken piece went.stage; taken = taken + length piece; text = went.text }
 
 -- ---- the operation of a stage
 
@@ -346,10 +365,8 @@ abbrev pub set_of : Order → ℕ → Option Call
 set_of (order.Register node kind address) version = set node kind address version
 set_of _ version = None
 
-abbrev pub write_of : List ℕ → Capability → ℕ → Option Call
-write_of bytes cap done =
-    Some (call.Write cap.file.number (done / object_size cap) (done % object_size cap)
-    (take (piece_length (object_size cap) done (length bytes)) (drop done bytes)))
+abbrev pub write_of : Capability → ℕ → List ℕ → Option Call
+write_of cap from piece = Some (call.Write cap.file.number (from / object_size cap) (from % object_size cap) piece)
 
 abbrev pub read_of : Order → Capability → ℕ → Option Call
 read_of (order.Get path range hex) cap from =
@@ -372,10 +389,11 @@ unfoldable pub operation_of : Task → Stage → Option Call
 operation_of task (next.Lists kind above) = rows_above kind above
 operation_of task next.Looks = get_of task.wish
 operation_of task (next.Sets version) = set_of task.wish version
-operation_of task (next.Writes cap done mark) = write_of task.bytes cap done
+operation_of task (next.Writes cap from mark piece) = write_of cap from piece
 operation_of task (next.Reads cap from mark) = read_of task.wish cap from
 operation_of task (next.Truncates cap mark) = truncate_of task.wish cap
 operation_of task (next.Reports cap mark) = report_of task.user task.group cap
+operation_of task (next.Fetches cap mark) = None
 operation_of task (next.Over ended) = None
 operation_of task stage = meta_call task.user task.group (request_of task.wish stage)
 
@@ -384,10 +402,10 @@ abbrev pub status_at : Stage → Status
 status_at (next.Over ended) = ended
 status_at _ = status.Done
 
--- A command after the results of its operations: how far it is, and what it has written.
-unfoldable pub after : Task → Stage → List CallResult → Goes
-after task stage [] = goes_to stage
-after task stage (result ∷ results) =
-    let went = goes_on task stage result in
-    let rest = after task went.stage results in
-    record { stage = rest.stage; text = went.text ++ rest.text }
+-- A command that writes these bytes, of which so many were taken, after the results of its operations.
+unfoldable pub after : Task → List ℕ → ℕ → Stage → List CallResult → Progress
+after task bytes taken stage [] = record { stage = stage; taken = taken; text = [] }
+after task bytes taken stage (result ∷ results) =
+    let went = goes_on task bytes taken stage result in
+    let rest = after task bytes went.taken went.stage results in
+    record { stage = rest.stage; taken = rest.taken; text = went.text ++ rest.text }

@@ -26,12 +26,19 @@ pub enum Stage {
     },
     Creates,
     Grants,
-    /// So many bytes were written, or read up to this place; and the greatest mark that was learnt.
-    Writes {
+    /// The next piece of what is written is taken; and the greatest mark that was learnt, as in all stages below.
+    Fetches {
         capability: Capability,
-        done: u64,
         mark: SizeMark,
     },
+    /// The piece of the file from this place on, in bytes, which is never empty.
+    Writes {
+        capability: Capability,
+        from: u64,
+        mark: SizeMark,
+        piece: Octets,
+    },
+    /// The bytes from this place on.
     Reads {
         capability: Capability,
         from: u64,

@@ -22,7 +22,7 @@ an_empty_put = refl
 
 a_whole_put : IsPut
 unfolding after goes_by digits
-a_whole_put = refl
+a_whole_put = (refl, refl, refl, refl)
 
 an_existing_file : IsExisting
 unfolding after goes_by

@@ -1,13 +1,11 @@
-use Rattle.client_jobs.specs.Content.{bytes_of}
 use Rattle.client_jobs.proofs.Sessions.{read_once, line_runs}
 use Rattle.client_jobs.proofs.lines.run_line.Goals as goal
 
 pub returns : goal.returns
 returns g c source =
-    line_runs c.args.job.now c.args.session.now c.work-status.new.session (bytes_of c.pattern_in-content.result) c.in-Ok.reading (g.C.Clock.readings c.now.new.self)
+    line_runs c.args.job.now c.args.session.now c.work-status.new.session c.in-Ok.reading (g.C.Clock.readings c.now.new.self)
     c.set_terms.new.self c.set_terms-2.new.self c.client_of.result _ _ _ _ _ _ _ _ _ _ _ _
     (read_once _ _ _ c.in-Ok.ensures.reads c.in-Ok.ensures.untold) c.in-Ok.ensures.faults
-    c.pattern_in-content.ensures
     (record {
       first = c.max-first.result;
       least = c.first_number.result;

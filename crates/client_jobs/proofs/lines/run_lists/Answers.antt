@@ -3,5 +3,5 @@ use Rattle.client_jobs.proofs.lines.run_lists.Goals as goal
 
 pub returns : goal.returns
 returns g c source =
-    lists_end c.args.base.now c.lists_alone-job.result c.args.session.now c.work_quietly.new.session _ c.next.result c.client_of.result _ _ _ _ _
-    c.lists_alone-job.ensures c.new.ensures c.next.ensures c.client_of.ensures.value (c.work_quietly.ensures source)
+    lists_end c.args.base.now c.lists_alone-job.result c.args.session.now c.work_quietly.new.session c.next.result c.client_of.result _ _ _ _ _
+    c.lists_alone-job.ensures c.next.ensures c.client_of.ensures.value (c.work_quietly.ensures source)

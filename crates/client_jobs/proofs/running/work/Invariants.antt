@@ -1,7 +1,8 @@
 use Rattle.std.proofs.Common.{◌≡◌}
 use Rattle.client_plans.specs.Plans.{begins}
-use Rattle.client_jobs.specs.Content.{bytes_of}
-use Rattle.client_jobs.specs.Running.{CanAsk, IsUnderWay, command_of}
+use Rattle.client_jobs.specs.Content.{pattern_from}
+use Rattle.client_jobs.specs.Lines.{bytes_put}
+use Rattle.client_jobs.specs.Running.{CanAsk, IsUnderWay, command_of, put_in}
 use Rattle.client_jobs.proofs.running.work.Given as goal
 
 -- so many operations were carried out, and no count rose
@@ -13,8 +14,9 @@ invariant-loop g l =
       link : g.L.Link.fault_count l.link ≡ g.L.Link.fault_count l.fn.link;
       clock : g.C.Clock.fault_count l.clock ≡ g.C.Clock.fault_count l.fn.clock;
       sink : g.K.Sink.fault_count l.out ≡ g.K.Sink.fault_count l.fn.out;
+      bytes : pattern_from 0 l.pieces.size ≡ bytes_put (put_in l.job.order);
       way :
-          IsUnderWay (command_of l.job (bytes_of l.content))
+          IsUnderWay (command_of l.job) (bytes_put (put_in l.job.order))
           (record {
             to_come = g.L.Link.given l.fn.link;
             sent = g.L.Link.sent l.fn.link;
@@ -29,5 +31,5 @@ invariant-loop g l =
             losses = g.L.Link.loss_count l.link;
             to_read = g.C.Clock.readings l.clock;
           })
-          (record { session = l.session; stage = l.stage }) (g.K.Sink.held l.out);
+          (record { session = l.session; stage = l.stage }) l.pieces.taken (g.K.Sink.held l.out);
     }

@@ -1,5 +1,4 @@
 use Rattle.std.proofs.Common.{◌∙◌, refl, []}
-use Rattle.client_jobs.specs.Content.{bytes_of}
 use Rattle.client_jobs.specs.Running.{begun, command_of}
 use Rattle.client_jobs.proofs.Working.{runs_on, ends_over, ends_by, ends_spent}
 use Rattle.client_jobs.proofs.running.work_quietly.Goals as goal
@@ -14,32 +13,32 @@ loop-preserved g c =
       link = c.in-Ok-Some.ensures.sound.0 ∙ c.loop.invariant.link;
       clock = c.in-Ok-Some.ensures.sound.1 ∙ c.loop.invariant.clock;
       way =
-          runs_on (command_of c.args.job.now (bytes_of c.args.content.now)) _ _ (record {
+          runs_on (command_of c.args.job.now) _ _ (record {
             to_come = g.L.Link.given c.step.new.link;
             sent = g.L.Link.sent c.step.new.link;
             losses = g.L.Link.loss_count c.step.new.link;
             to_read = g.C.Clock.readings c.step.new.clock;
-          }) _ _ c.loop.counter c.step.new.session _ c.in-Ok-Some.goes
-          c.loop.invariant.way c.in-Ok-Some.field-0-is c.in-Ok-Some.ensures.stepped;
+          }) _ _ c.loop.counter c.step.new.session _ c.in-Ok-Some.goes c.new.result c.with_piece-stage.result
+          c.loop.invariant.way c.in-Ok-Some.field-0-is c.in-Ok-Some.ensures.stepped c.new.ensures c.with_piece-stage.ensures;
     }
 
 pub returns-in-Ok-None : goal.returns-in-Ok-None
 returns-in-Ok-None g c source =
-    ends_over (command_of c.args.job.now (bytes_of c.args.content.now)) _ _ (record {
+    ends_over (command_of c.args.job.now) _ _ (record {
       to_come = g.L.Link.given c.step.new.link;
       sent = g.L.Link.sent c.step.new.link;
       losses = g.L.Link.loss_count c.step.new.link;
       to_read = g.C.Clock.readings c.step.new.clock;
     }) _ _ c.loop.counter c.step.new.session _ _ _ c.into_status.result
     c.loop.invariant.way c.in-Ok-None.field-0-is c.in-Ok-None.ensures.stepped (c.in-Ok-None.ensures.sound.0 ∙ c.loop.invariant.link)
-    (c.in-Ok-None.ensures.sound.1 ∙ c.loop.invariant.clock) c.into_status.ensures
+    (c.in-Ok-None.ensures.sound.1 ∙ c.loop.invariant.clock) refl c.into_status.ensures
 
 pub returns-in-Err : goal.returns-in-Err
 returns-in-Err g c source =
-    ends_by (command_of c.args.job.now (bytes_of c.args.content.now)) _ _ _ _ _ c.loop.counter c.step.new.session _ _ source _ _ _ c.in-Err.status
+    ends_by (command_of c.args.job.now) _ _ _ _ _ c.loop.counter c.step.new.session _ _ source _ _ _ c.in-Err.status
     c.loop.invariant.way c.in-Err.ensures.stepped c.loop.invariant.link c.loop.invariant.clock (c.in-Err.ensures.cause source)
 
 pub returns : goal.returns
 returns g c source =
-    ends_spent (command_of c.args.job.now (bytes_of c.args.content.now)) _ _ _ _ c.loop.counter _ _ c.status_of.result
-    c.loop.invariant.way c.loop.invariant.link c.loop.invariant.clock c.loop.auto.counter-end c.loop-test.false c.status_of.ensures
+    ends_spent (command_of c.args.job.now) _ _ _ _ c.loop.counter _ _ c.status_of.result
+    c.loop.invariant.way c.loop.invariant.link c.loop.invariant.clock refl c.loop.auto.counter-end c.loop-test.false c.status_of.ensures

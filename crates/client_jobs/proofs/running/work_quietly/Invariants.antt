@@ -1,5 +1,4 @@
-use Rattle.std.proofs.Common.{◌≡◌, ℕ, List}
-use Rattle.client_jobs.specs.Content.{bytes_of}
+use Rattle.std.proofs.Common.{◌≡◌, ℕ, List, []}
 use Rattle.client_jobs.specs.Running.{CanAsk, Runs, command_of}
 use Rattle.client_jobs.proofs.running.work_quietly.Given as goal
 
@@ -12,7 +11,7 @@ invariant-loop g l =
       clock : g.C.Clock.fault_count l.clock ≡ g.C.Clock.fault_count l.fn.clock;
       way :
           (text : List ℕ)
-          × Runs (command_of l.job (bytes_of l.content))
+          × Runs (command_of l.job) []
           (record {
             to_come = g.L.Link.given l.fn.link;
             sent = g.L.Link.sent l.fn.link;
@@ -26,5 +25,5 @@ invariant-loop g l =
             losses = g.L.Link.loss_count l.link;
             to_read = g.C.Clock.readings l.clock;
           })
-          (record { session = l.session; stage = l.stage }) text;
+          (record { session = l.session; stage = l.stage }) 0 text;
     }
