@@ -3,6 +3,7 @@
 
 mod compacting;
 mod event;
+mod laws;
 mod node;
 mod opening;
 mod reader;
@@ -13,6 +14,7 @@ mod turn;
 
 pub use compacting::{Rewritten, is_due, rewrite};
 pub use event::{Ended, Handled, handle, keep};
+pub use laws::no_older_records_come_back;
 pub use node::Node;
 pub use sending::send_all;
 pub use serving::serve;
