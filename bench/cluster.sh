@@ -3,11 +3,128 @@
 #   bench/cluster.sh [PROGRAM]
 # Prints the rate of `put` and of `get` for files of 64 MiB with one and with three replicas, the time of a `put` of 1 KiB and of a `get`
 # of it (a whole command each: two lists, a grant, the write or the read, a report), and beside them what a bare write and fdatasync of
-# pieces of 128 KiB takes in the same folder. Each figure is the best of three.
+# pieces of 128 KiB takes in the same folder, and what a plain program takes that sends the same datagrams and makes the same calls of
+# the disk, and nothing else: for each write the primary sends an update to each other replica, each replica writes it and syncs it
+# twice, and the client is answered once a majority has. Each figure is the best of three.
 set -eu
 here=$(cd "$(dirname "$0")" && pwd)
 program=${1:-$(bash "$here/../tests/build.sh")}
-exec python3 - "$program" <<'PYTHON'
+model=$(mktemp -d)
+trap 'rm -rf "$model"' EXIT
+cat >"$model/model.c" <<'MODEL'
+/* model REPLICAS SIZE COUNT FOLDER: COUNT writes of SIZE bytes to so many replicas, each a process with a socket and a file. */
+#include <arpa/inet.h>
+#include <fcntl.h>
+#include <signal.h>
+#include <stdlib.h>
+#include <string.h>
+#include <stdio.h>
+#include <sys/socket.h>
+#include <sys/wait.h>
+#include <unistd.h>
+
+enum { PART = 32768, HEAD = 40, SHORT = 100, MORE = 200, MOST = 9 };
+static int sockets[MOST + 1];
+static struct sockaddr_in places[MOST + 1];
+static char buffer[65536], bytes[1 << 18];
+
+/* Sends a message of so many bytes in parts, each of which begins with the number of its write. */
+static void post(int from, int to, int number, size_t size)
+{
+    memcpy(bytes, &number, sizeof number);
+    for (size_t at = 0; at < size; at += PART) {
+        size_t some = size - at < PART ? size - at : PART;
+        if (sendto(sockets[from], bytes, some + HEAD, 0, (struct sockaddr *)&places[to], sizeof places[to]) < 0)
+            exit(1);
+    }
+}
+
+/* Receives until so many bytes of long messages have come, or so many short ones of this write. */
+static void take(int at, int number, size_t *had, size_t size, int acks)
+{
+    while (acks > 0 || *had < size) {
+        int of;
+        ssize_t got = recv(sockets[at], buffer, sizeof buffer, 0) - HEAD;
+        if (got < 0)
+            exit(1);
+        memcpy(&of, buffer, sizeof of);
+        if (got == SHORT) {
+            acks -= of == number;
+        } else {
+            memcpy(bytes + sizeof of, buffer + HEAD, (size_t)got);
+            *had += (size_t)got;
+        }
+    }
+}
+
+/* Appends a record as a journal does: the piece and a sync, its gate and a sync. */
+static void append(int file, off_t *end, size_t size)
+{
+    char gate = (char)0xa5;
+    if (pwrite(file, bytes, size, *end + 1) != (ssize_t)size || fdatasync(file) || pwrite(file, &gate, 1, *end) != 1 || fdatasync(file))
+        exit(1);
+    *end += (off_t)size + 5;
+}
+
+static void serve(int node, int replicas, size_t size, const char *folder)
+{
+    char path[4096];
+    off_t end = 12;
+    size_t had = 0;
+    snprintf(path, sizeof path, "%s/model-%d", folder, node);
+    int file = open(path, O_RDWR | O_CREAT | O_TRUNC, 0600);
+    if (file < 0)
+        exit(1);
+    for (int number = 1;; number++) {
+        take(node, number, &had, size + MORE, 0);
+        had -= size + MORE;
+        if (node == 1)
+            for (int peer = 2; peer <= replicas; peer++)
+                post(1, peer, number, size + MORE);
+        append(file, &end, size + SHORT);
+        if (node == 1)
+            /* with its own a majority has it */
+            take(1, number, &had, 0, replicas / 2);
+        post(node, node == 1 ? 0 : 1, number, SHORT);
+    }
+}
+
+int main(int words, char **word)
+{
+    if (words != 5)
+        return 2;
+    int replicas = atoi(word[1]), count = atoi(word[3]), room = 4 << 20;
+    size_t size = strtoul(word[2], 0, 10);
+    pid_t children[MOST + 1];
+    if (replicas < 1 || replicas > MOST || size > 131072)
+        return 2;
+    for (int node = 0; node <= replicas; node++) {
+        socklen_t length = sizeof places[node];
+        sockets[node] = socket(AF_INET, SOCK_DGRAM, 0);
+        setsockopt(sockets[node], SOL_SOCKET, SO_RCVBUF, &room, sizeof room);
+        places[node].sin_family = AF_INET;
+        places[node].sin_addr.s_addr = htonl(INADDR_LOOPBACK);
+        if (bind(sockets[node], (struct sockaddr *)&places[node], sizeof places[node]) ||
+            getsockname(sockets[node], (struct sockaddr *)&places[node], &length))
+            return 1;
+    }
+    for (int node = 1; node <= replicas; node++)
+        if (!(children[node] = fork()))
+            serve(node, replicas, size, word[4]);
+    for (int number = 1; number <= count; number++) {
+        size_t had = 0;
+        post(0, 1, number, size + MORE);
+        take(0, number, &had, 0, 1);
+    }
+    for (int node = 1; node <= replicas; node++) {
+        kill(children[node], SIGKILL);
+        waitpid(children[node], 0, 0);
+    }
+    return 0;
+}
+MODEL
+gcc -O2 -o "$model/model" "$model/model.c"
+python3 - "$program" "$model/model" <<'PYTHON'
 import os
 import socket
 import subprocess
@@ -15,7 +132,7 @@ import sys
 import tempfile
 import time
 
-PROGRAM = sys.argv[1]
+PROGRAM, MODEL = sys.argv[1:]
 SIZE = 64 << 20
 PIECE = 131072
 TIMES = ["--lease", "2000", "--drift", "200"]
@@ -48,6 +165,12 @@ def bare(folder):
         os.write(file, piece)
         os.fdatasync(file)
     os.close(file)
+
+
+def modelled(replicas, size, count, folder):
+    """The seconds that a write takes in the plain program."""
+    words = [MODEL, str(replicas), str(size), str(count), folder]
+    return best(lambda: subprocess.run(words, check=True, timeout=120)) / count
 
 
 def main():
@@ -85,8 +208,9 @@ def main():
                 must(["put", path, "--pattern", "1", "--replicas", str(replicas)])
                 took = best(lambda: must(put))
                 read = best(lambda: must(["get", path]))
-                print(f"{replicas} replicas: put {SIZE / took / 1e6:.0f} MB/s ({took / (SIZE // PIECE) * 1e3:.2f} ms a piece), "
-                      f"get {SIZE / read / 1e6:.0f} MB/s")
+                piece, plain = took / (SIZE // PIECE), modelled(replicas, PIECE, SIZE // PIECE, folder)
+                print(f"{replicas} replicas: put {SIZE / took / 1e6:.0f} MB/s ({piece * 1e3:.2f} ms a piece, {piece / plain:.2f} times the plain "
+                      f"program's {plain * 1e3:.2f} ms), get {SIZE / read / 1e6:.0f} MB/s")
             small = ["put", "/v/small", "--pattern", "1024", "--replicas", "3"]
             must(small)
             print(f"3 replicas, 1 KiB: put {best(lambda: must(small)) * 1e3:.1f} ms, get {best(lambda: must(['get', '/v/small'])) * 1e3:.1f} ms "
