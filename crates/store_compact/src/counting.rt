@@ -1,4 +1,5 @@
-//! How long an area of the rewritten records is, which is counted without a copy of a body.
+//! How long an area of the rewritten records is, which is counted without a copy of a body. A size stays at `u64::MAX`, which stands for
+//! all that pass it.
 
 ghost use Rattle.std.specs.Prelude.{◌≡◌, ◌+◌, IfOk, OnOk, filter, length, map};
 ghost use Rattle.std.specs.List.{All};
@@ -26,7 +27,7 @@ const AROUND_A_BODY: u64 = 5 + 1 + 24 + 4 + 20 + 4;
 /// Counts one more record. Its bytes are made, and dropped again.
 fn count_record(alloc: Global, size: &mut u64, rec: &Record) -> Result<(), OutOfMemory>
     requires { FitsRecord rec.now }
-    ensures { OnOk result (size.new ≡ counted (size.old + (5 + length (record_text rec.now)))) }
+    ensures { OnOk result (counted size.new ≡ counted (size.old + (5 + length (record_text rec.now)))) }
 {
     let bytes = record_bytes(alloc, rec)?;
     *size = size.saturating_add(5 + bytes.as_slice().len() as u64);
@@ -34,9 +35,10 @@ fn count_record(alloc: Global, size: &mut u64, rec: &Record) -> Result<(), OutOf
 }
 
 /// Counts those records that are of requests.
+#[tactic(auto, unfolding(xt_protocol::specs::Folds::logged_of))]
 fn count_logged(alloc: Global, size: &mut u64, records: &[Record]) -> Result<(), OutOfMemory>
     requires { All FitsRecord (logged_of records.now) }
-    ensures { OnOk result (size.new ≡ counted (size.old + bytes_of (logged_of records.now))) }
+    ensures { OnOk result (counted size.new ≡ counted (size.old + bytes_of (logged_of records.now))) }
 {
     for rec in records {
         if is_logged(rec) {
@@ -54,7 +56,7 @@ fn count_view(
     location: &Option<Location>,
 ) -> Result<(), OutOfMemory>
     requires { All FitsRecord (view_of file.now location.now) }
-    ensures { OnOk result (size.new ≡
+    ensures { OnOk result (counted size.new ≡
         counted (size.old + bytes_of (view_of file.now location.now))) }
 {
     if let Some(location) = location {
@@ -67,23 +69,33 @@ fn count_view(
     Ok(())
 }
 
+/// How many bytes were put last as this body of the file: none where no record put it, which can't happen to a body that is held.
+fn body_length(log: &RecordLog, file: &FileId, version: ObjectVersion) -> usize
+    ensures { result ≡
+        length (body_by (records_in log.now) file.now version.object version.version) }
+{
+    match log.body_length(file, version.object, &version.version) {
+        Some(bytes) => bytes,
+        None => 0,
+    }
+}
+
 /// Counts the record that puts a body of the file.
 fn count_body(size: &mut u64, log: &RecordLog, file: &FileId, version: ObjectVersion)
     requires { FitsFile file.now }
-    ensures { size.new ≡ counted (size.old + (5 + length (record_text
+    ensures { counted size.new ≡ counted (size.old + (5 + length (record_text
         (stage_of (body_by (records_in log.now)) file.now version)))) }
 {
-    let bytes = match log.body_length(file, version.object, &version.version) {
-        Some(bytes) => bytes as u64,
-        None => 0,
-    };
-    *size = size.saturating_add(AROUND_A_BODY).saturating_add(bytes);
+    let bytes = body_length(log, file, version);
+    *size = size
+        .saturating_add(AROUND_A_BODY)
+        .saturating_add(bytes as u64);
 }
 
 /// Counts the held bodies of a file that are kept.
 fn count_bodies(size: &mut u64, log: &RecordLog, row: &FileRow, keep: &SoughtBodies<'_>)
     requires { FitsFile row.now.file }
-    ensures { size.new ≡ counted (size.old
+    ensures { counted size.new ≡ counted (size.old
         + bytes_of (map (stage_of (body_by (records_in log.now)) row.now.file)
         (filter (is_kept keep.now row.now.file) row.now.held))) }
 {
@@ -104,7 +116,7 @@ fn count_row(
 ) -> Result<(), OutOfMemory>
     requires { All FitsRecord
         (records_of_row (body_by (records_in log.now)) (row_without keep.now row.now)) }
-    ensures { OnOk result (size.new ≡ counted (size.old
+    ensures { OnOk result (counted size.new ≡ counted (size.old
         + bytes_of (records_of_row (body_by (records_in log.now)) (row_without keep.now row.now)))) }
 {
     count_view(alloc, size, &row.file, &row.location)?;
@@ -113,7 +125,8 @@ fn count_row(
         file: row.file,
         head: row.head.copy(alloc)?,
     };
-    count_record(alloc, size, &rec)
+    count_record(alloc, size, &rec)?;
+    Ok(())
 }
 
 /// Counts what says of these files what their rows say.
@@ -126,7 +139,7 @@ fn count_rows(
 ) -> Result<(), OutOfMemory>
     requires { All FitsRecord
         (records_of_rows (body_by (records_in log.now)) (map (row_without keep.now) rows.now)) }
-    ensures { OnOk result (size.new ≡ counted (size.old
+    ensures { OnOk result (counted size.new ≡ counted (size.old
         + bytes_of (records_of_rows (body_by (records_in log.now)) (map (row_without keep.now) rows.now)))) }
 {
     for row in rows {
@@ -136,15 +149,16 @@ fn count_rows(
 }
 
 /// How many bytes an area of the rewritten records has, at most `u64::MAX`. No body is copied.
+#[tactic(auto, unfolding(xt_protocol::specs::Forgetting::rewritten))]
 pub fn rewritten_size(alloc: Global, log: &RecordLog, keep: &Keep) -> Result<u64, OutOfMemory>
     requires { All FitsRecord (rewritten keep.now (records_in log.now)) }
     ensures { IfOk result (λ size. size ≡ counted (size_of (rewritten keep.now (records_in log.now)))) }
 {
     let keep = SoughtBodies::of(keep);
     let folded = fold(alloc, log.as_slice())?;
-    let mut size = 1;
+    let mut size = 0;
     count_record(alloc, &mut size, &Record::Boot { boot: folded.boot })?;
     count_logged(alloc, &mut size, log.as_slice())?;
     count_rows(alloc, &mut size, log, folded.files.as_slice(), &keep)?;
-    Ok(size)
+    Ok(size.saturating_add(1))
 }
