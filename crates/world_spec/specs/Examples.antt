@@ -49,11 +49,11 @@ use Rattle.world_spec.specs.Runs.{after, run_of}
 
 -- there is always room, and nothing is forgotten
 abbrev pub ample : Room
-ample = record { overflow = λ past rec. None; rewrites_now = λ past keep. false }
+ample = record { overflow = λ past rec. None; rewrites_now = λ past keep. false; rewrites_idle = λ d id past keep. false }
 
 -- there is always room, and all that may be forgotten is, after each record
 abbrev pub eager : Room
-eager = record { overflow = λ past rec. None; rewrites_now = λ past keep. true }
+eager = record { overflow = λ past rec. None; rewrites_now = λ past keep. true; rewrites_idle = λ d id past keep. false }
 
 -- how many records were put
 abbrev pub is_put : Deed → Bool
@@ -65,6 +65,7 @@ abbrev pub room_for : ℕ → Room
 room_for count = record {
   overflow = λ past rec. if nat_lt (count_by is_put past) count then None else Some (record { need = count_by is_put past + 1; limit = count });
   rewrites_now = λ past keep. false;
+  rewrites_idle = λ d id past keep. false;
 }
 
 -- the world after these lines
