@@ -9,4 +9,4 @@ mod area;
 mod moving;
 mod parts;
 
-pub use moving::{Located, Refusal, move_to};
+pub use moving::{Located, Refusal, full_need, move_to};

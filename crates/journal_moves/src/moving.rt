@@ -1,7 +1,7 @@
 ghost use Rattle.std.specs.Prelude.{◌≡◌, ◌≤◌, ◌<◌, ◌+◌, ◌^◌, ◌++◌, ◌∷◌, [], ℕ, List, Some, None, IsTrue, IsSome, IfOk, OnOk, OnErr, IsErrOf, MatchResult, MatchOption, is_err, length};
 ghost use Rattle.disk_model.specs.Disk.{LeavesOnly};
 ghost use Rattle.journal_records.specs.Calls.{GoesOn};
-ghost use Rattle.xt_base.specs.Faults.{fault_count_after};
+ghost use Rattle.xt_base.specs.Faults.{counted, fault_count_after};
 ghost use Rattle.journal_areas.specs.Format.{AreGiven, records};
 ghost use Rattle.journal_areas.specs.Areas.{end_in};
 ghost use Rattle.journal_areas.specs.Kept.{KeepsIn};
@@ -114,6 +114,18 @@ fn plan(at: &Located, payloads: &[Octets], limit: u64) -> Result<Slot, u64>
     let Some(size) = size_of(payloads) else {
         return Err(u64::MAX);
     };
+    slot_for(at, size, limit)
+}
+
+/// What the slot of a new area of this size says; or what that needs and can't have.
+fn slot_for(at: &Located, size: u64, limit: u64) -> Result<Slot, u64>
+    ensures { MatchResult result
+        (λ slot. (slot ≡ new_slot at.now.superblock at.now.end size)
+        × (need_for at.now.superblock at.now.end size < 2 ^ 64)
+        × Fits slot
+        × (full_need at.now.superblock at.now.end size limit ≡ None))
+        (λ need. full_need at.now.superblock at.now.end size limit ≡ Some need) }
+{
     let Some(site) = site_of(&at.superblock, at.end, size) else {
         return Err(u64::MAX);
     };
@@ -128,6 +140,18 @@ fn plan(at: &Located, payloads: &[Octets], limit: u64) -> Result<Slot, u64>
             first: size,
         }),
         None => Err(limit),
+    }
+}
+
+/// What a move to a new area of this many bytes would report as its need, at most `u64::MAX`, if it answered `Full`; none where there is
+/// room. An area that is longer than 64 bits say counts as one of `u64::MAX` bytes, and there is no room for it.
+pub fn full_need(at: &Located, size: u64, limit: u64) -> Option<u64>
+    ensures { (whole : ℕ) → size ≡ counted whole →
+        result ≡ full_need at.now.superblock at.now.end whole limit }
+{
+    match slot_for(at, size, limit) {
+        Ok(_) => None,
+        Err(need) => Some(need),
     }
 }
 

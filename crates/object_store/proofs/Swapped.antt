@@ -14,8 +14,9 @@ use Rattle.xt_journal.specs.Format.{KeepsJournal, StandsFor}
 use Rattle.xt_journal.proofs.Steps.{each_stands}
 use Rattle.object_store.specs.declared.store.Store.{Store}
 use Rattle.object_store.specs.declared.errors.AppendErr.TheVariants as append
-use Rattle.object_store.specs.Access.{disk_of, records_of}
-use Rattle.object_store.specs.Swaps.{Swaps}
+use Rattle.xt_journal.specs.Access.{limit_of}
+use Rattle.object_store.specs.Access.{disk_of, journal_of, records_of}
+use Rattle.object_store.specs.Swaps.{Swaps, swap_need}
 use Rattle.object_store.specs.Texts.{texts_of}
 use Rattle.object_store.proofs.Outcomes.{goes_on_itself}
 
@@ -58,6 +59,18 @@ pub not_tried : {D : Type 0} {g : Ghosts D} (old : Store D g) (made : List Recor
     → Swaps old made (Err (append.OutOfMemory old))
 not_tried {g = g} old made only = record {
   end = record { records = refl; kept = refl; place = refl; limit = refl; superblock = refl; no_call = λ told. goes_on_itself (g.fails (disk_of old)) };
+  any_moment = λ told.
+      begun g.moment g.left_since (disk_of old) (IsEither (texts_of (records_of old)) (texts_of made))
+      (λ image left. rests_either (g.kept (disk_of old)) (texts_of (records_of old)) (texts_of made) image (old.keeps told) (only image told left));
+  faults = refl;
+}
+
+-- the new area has no room, and that is found before anything is touched
+pub no_room : {D : Type 0} {g : Ghosts D} (old : Store D g) (made : List Record) (need limit : ℕ) → swap_need old made ≡ Some need → limit ≡ limit_of (journal_of old)
+    → ((image : List ℕ) → IsTrue g.is_told → g.left_since (disk_of old) (g.moment (disk_of old)) image → IsImage (g.kept (disk_of old)) image)
+    → Swaps old made (Err (append.Full old need limit))
+no_room {g = g} old made need limit needed is only = record {
+  end = record { needed = needed; records = refl; disk = refl; place = refl; limit = refl; superblock = refl; limit_is = is };
   any_moment = λ told.
       begun g.moment g.left_since (disk_of old) (IsEither (texts_of (records_of old)) (texts_of made))
       (λ image left. rests_either (g.kept (disk_of old)) (texts_of (records_of old)) (texts_of made) image (old.keeps told) (only image told left));

@@ -55,7 +55,12 @@ fn prepared(alloc: Global, records: Vec<Record>) -> Result<Made, OutOfMemory>
 }
 
 impl<D: Disk> Store<D> {
-    ghost use Rattle.object_store.specs.Swaps.{Swaps};
+    ghost use Rattle.std.specs.Prelude.{List};
+    ghost use Rattle.xt_base.specs.Faults.{counted};
+    ghost use Rattle.xt_journal.specs.Access.{limit_of};
+    ghost use Rattle.xt_messages.specs.declared.record.Record.{Record};
+    ghost use Rattle.object_store.specs.Access.{journal_of};
+    ghost use Rattle.object_store.specs.Swaps.{Swaps, size_of, swap_need};
     ghost use Rattle.object_store.specs.Texts.{AreRecords};
 
     /// Puts these records in place of all others, on the disk and then in memory. At `Ok` each crash leaves them from then on, and at any
@@ -95,5 +100,21 @@ impl<D: Disk> Store<D> {
                 Err(AppendErr::OutOfMemory { store })
             }
         }
+    }
+
+    /// What a swap for records whose area has this many bytes reports as its need where it answers `Full`; none where there is room. An
+    /// area that is longer than 64 bits say counts as one of `u64::MAX` bytes. Nothing is done.
+    pub fn swap_need(&self, size: u64) -> Option<u64>
+        ensures { (records : List Record) → size ≡ counted (size_of records) →
+            result ≡ swap_need self.now records }
+    {
+        self.journal.full_need(size)
+    }
+
+    /// The length in bytes past which its journal doesn't grow.
+    pub fn limit(&self) -> u64
+        ensures { result ≡ limit_of (journal_of self.now) }
+    {
+        self.journal.limit()
     }
 }

@@ -1,8 +1,10 @@
 -- the spelling of a record is never long
-use Rattle.std.proofs.Common.{◌≤◌, List, ◌++◌, length, Option, Some, None, arith}
+use Rattle.std.proofs.Common.{◌≡◌, ◌≤◌, ◌+◌, ℕ, List, ◌++◌, length, Option, Some, None, arith}
 use Rattle.std.proofs.lemmas.List.{length-append}
 use Rattle.xt_base.specs.declared.ids.NodeId.{NodeId}
-use Rattle.xt_messages.specs.Limits.{FitsMembers, FitsLogged, FitsRecord}
+use Rattle.xt_base.specs.declared.ids.FileId.{FileId}
+use Rattle.xt_base.specs.declared.ids.Stamp.{Stamp}
+use Rattle.xt_messages.specs.Limits.{FitsFile, FitsMembers, FitsLogged, FitsRecord}
 use Rattle.xt_fields.specs.BasicFields.{word_bytes, long_bytes, octets_bytes}
 use Rattle.xt_wire.specs.IdFields.{node_bytes, file_bytes, epoch_bytes, stamp_bytes}
 use Rattle.xt_wire.specs.FileFields.{location_bytes, update_bytes, head_bytes}
@@ -34,3 +36,17 @@ text_bound (kept.Stage file object version bytes) h = (omega arith, omega (arith
 text_bound (kept.Head file head) h = (omega arith, omega (arith, file_len file h.0, length-append (file_bytes file) (head_bytes head), head_len head, h.1.objects.few, h.1.clients.few))
 text_bound (kept.View file location) h = (omega arith, omega (arith, file_len file h.0, length-append (file_bytes file) (location_bytes location), location_len location, members_few location.members h.1.nodes.different))
 text_bound (kept.Meta from number now nodes request) h = (omega arith, omega (arith, word-length from.0, length-append (node_bytes from) (long_bytes number), long-length number, length-append (node_bytes from ++ long_bytes number) (long_bytes now), long-length now, length-append (node_bytes from ++ long_bytes number ++ long_bytes now) (nodes_bytes nodes), nodes_bound nodes h.3, length-append (node_bytes from ++ long_bytes number ++ long_bytes now ++ nodes_bytes nodes) (logged_bytes request), logged_bound request h.4))
+
+-- what puts a body is as much longer than the body
+pub stage_length : (file : FileId) (object : ℕ) (version : Stamp) (bytes : List ℕ) → FitsFile file → length (record_text (kept.Stage file object version bytes)) ≡ 53 + length bytes
+stage_length file object version bytes h =
+    omega (
+      arith,
+      file_len file h,
+      length-append (file_bytes file) (word_bytes object),
+      word-length object,
+      length-append (file_bytes file ++ word_bytes object) (stamp_bytes version),
+      stamp_len version,
+      length-append (file_bytes file ++ word_bytes object ++ stamp_bytes version) (octets_bytes bytes),
+      octets_len bytes,
+    )

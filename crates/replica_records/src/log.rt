@@ -17,6 +17,7 @@ pub struct RecordLog {
 
 impl RecordLog {
     ghost use Rattle.std.specs.Prelude.{◌≡◌, ◌↔◌, ◌++◌, ◌∷◌, [], Some, None, Err, IfOk, OnOk, OnErr, length};
+    ghost use Rattle.std.specs.Option.{option_map};
     ghost use Rattle.xt_protocol.specs.Folds.{body_kept};
     ghost use Rattle.object_versions.specs.declared.errors.BodyErr.TheVariants.{NoSuchVersion};
     ghost use Rattle.object_versions.specs.KeptBodies.{fault_in};
@@ -111,6 +112,22 @@ impl RecordLog {
         match Octets::of(alloc, body_in(&self.records[place])) {
             Ok(body) => Ok(body),
             Err(_) => Err(BodyErr::OutOfMemory),
+        }
+    }
+
+    /// How many bytes that body has; none where no record put it. It isn't copied.
+    pub fn body_length(&self, file: &FileId, object: u64, version: &Stamp) -> Option<usize>
+        ensures { result ≡
+            option_map length (body_kept (records_in self.now) file.now object version.now) }
+    {
+        let key = BodyKey {
+            file: *file,
+            object,
+            version: *version,
+        };
+        match self.places.place(&key) {
+            Some(place) => Some(body_in(&self.records[place]).len()),
+            None => None,
         }
     }
 }

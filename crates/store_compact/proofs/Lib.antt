@@ -1,3 +1,4 @@
 pub mod Heads
+mod Counted
 mod Limits
 mod Named

@@ -3,6 +3,7 @@ ghost use Rattle.object_store.specs.Access.{records_of};
 ghost use Rattle.object_store.specs.Swaps.{Swaps};
 ghost use Rattle.object_store.specs.Texts.{AreRecords};
 
+use crate::counting::rewritten_size;
 use crate::rewriting::rewritten;
 use disk_model::Disk;
 use object_store::{AppendErr, Store};
@@ -14,7 +15,7 @@ use xt_messages::Keep;
 ///
 /// `keep` has to name enough for the rewritten records to be in their places: what the heads of all files name, at least. `Full` comes
 /// exactly where the new area has no room within the limit of the store's journal. Want of memory comes before the first device call. In
-/// both cases the store is as it was.
+/// both cases the store is as it was. Whether there is room is found by counting, before a body is copied.
 pub fn compact<D: Disk>(
     alloc: Global,
     store: Store<D>,
@@ -23,6 +24,13 @@ pub fn compact<D: Disk>(
     requires { AreRecords (rewritten keep.now (records_of store)) }
     ensures { Swaps store (rewritten keep.now (records_of store)) result }
 {
+    let Ok(size) = rewritten_size(alloc, store.log(), keep) else {
+        return Err(AppendErr::OutOfMemory { store });
+    };
+    if let Some(need) = store.swap_need(size) {
+        let limit = store.limit();
+        return Err(AppendErr::Full { store, need, limit });
+    }
     match rewritten(alloc, store.log(), keep) {
         Ok(made) => store.swap(alloc, made),
         Err(_) => Err(AppendErr::OutOfMemory { store }),

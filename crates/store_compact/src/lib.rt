@@ -7,6 +7,7 @@
 #![tactic(auto)]
 
 mod compacting;
+mod counting;
 mod laws;
 mod rewriting;
 mod worked;

@@ -48,7 +48,7 @@ fn stage(
 }
 
 /// Whether the record is of a request.
-fn is_logged(rec: &Record) -> bool
+pub fn is_logged(rec: &Record) -> bool
     ensures { result ≡ is_logged rec.now }
 {
     match rec {

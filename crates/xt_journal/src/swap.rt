@@ -1,14 +1,14 @@
 use crate::errors::AppendErr;
 use crate::journal::Journal;
 use disk_model::Disk;
-use journal_moves::{Located, Refusal, move_to};
+use journal_moves::{Located, Refusal, full_need, move_to};
 use std::alloc::Global;
 use xt_base::Octets;
 
 impl<D: Disk> Journal<D> {
     ghost use Rattle.std.specs.Prelude.{◌≡◌, ◌-◌, ℕ, List, Some, IfOk, IfSome, OnOk, IsSome, IsTrue, is_some};
     ghost use Rattle.disk_model.specs.Disk.{IsImage, LeavesOnly};
-    ghost use Rattle.xt_base.specs.Faults.{fault_count_after};
+    ghost use Rattle.xt_base.specs.Faults.{counted, fault_count_after};
     ghost use Rattle.journal_records.specs.Calls.{GoesOn};
     ghost use Rattle.journal_areas.specs.Sites.{area_of, area_size, moved, need_for, new_area_of};
     ghost use Rattle.journal_moves.specs.Answers.{full_need};
@@ -109,5 +109,25 @@ impl<D: Disk> Journal<D> {
                 },
             }),
         }
+    }
+
+    /// What a swap for payloads whose area has this many bytes would report as its need if it answered `Full`, at most `u64::MAX`; none
+    /// where there is room. An area that is longer than 64 bits say counts as one of `u64::MAX` bytes.
+    pub fn full_need(&self, size: u64) -> Option<u64>
+        ensures { (whole : ℕ) → size ≡ counted whole →
+            result ≡ full_need (superblock_of self.now) (place_of self.now) whole (limit_of self.now) }
+    {
+        let at = Located {
+            superblock: self.superblock,
+            end: self.end,
+        };
+        full_need(&at, size, self.limit)
+    }
+
+    /// The length in bytes past which it doesn't grow.
+    pub fn limit(&self) -> u64
+        ensures { result ≡ limit_of self.now }
+    {
+        self.limit
     }
 }
