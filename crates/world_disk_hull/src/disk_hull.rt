@@ -128,7 +128,7 @@ impl Hull for DiskHull {
 
     ghost room = { journal_room };
 
-    ghost waits = { λ _ _ _ _. refl };
+    ghost waits = { λ d id past keep i. false };
 
     fn carry(&mut self, alloc: Global, msg: &Msg) -> Result<Msg, WorldErr> {
         self.carried = self.carried.saturating_add(1);
