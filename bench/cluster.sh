@@ -1,11 +1,13 @@
 #!/usr/bin/env bash
 # How fast a cluster on the loopback stores and reads files: three OSDs, the MRC and the DIR as processes of the built program.
 #   bench/cluster.sh [PROGRAM]
-# Prints the rate of `put` and of `get` for files of 64 MiB with one and with three replicas, the time of a `put` of 1 KiB and of a `get`
-# of it (a whole command each: two lists, a grant, the write or the read, a report), and beside them what a bare write and fdatasync of
-# pieces of 128 KiB takes in the same folder, and what a plain program takes that sends the same datagrams and makes the same calls of
-# the disk, and nothing else: for each write the primary sends an update to each other replica, each replica writes it and syncs it
-# twice, and the client is answered once a majority has. Each figure is the best of three.
+# Prints the rate of `put` (of its standard input) and of `get` for files of 64 MiB with one and with three replicas, the time of one of
+# 1,024 writes of 1 KiB with three, the time of a `put` of 1 KiB and of a `get` of it (a whole command each: two lists, a grant, the write
+# or the read, a report), and beside them what a bare write and fdatasync of pieces of 128 KiB takes in the same folder, and what a plain
+# program takes that sends the same datagrams and makes the same calls of the disk, and nothing else: for each write the primary sends an
+# update to each other replica, each replica writes it and syncs it twice, and the client is answered once a majority has. Where `etcd` is
+# installed, the same for three nodes of it in the same folder: values of 128 KiB and of 16 bytes, put and read one after the other over
+# one connection to its JSON gateway. Each figure is the best of three.
 set -eu
 here=$(cd "$(dirname "$0")" && pwd)
 program=${1:-$(bash "$here/../tests/build.sh")}
@@ -125,7 +127,11 @@ int main(int words, char **word)
 MODEL
 gcc -O2 -o "$model/model" "$model/model.c"
 python3 - "$program" "$model/model" <<'PYTHON'
+import base64
+import http.client
+import json
 import os
+import shutil
 import socket
 import subprocess
 import sys
@@ -173,6 +179,50 @@ def modelled(replicas, size, count, folder):
     return best(lambda: subprocess.run(words, check=True, timeout=120)) / count
 
 
+def etcd(folder):
+    """What a put and a get of a value take in three nodes of etcd, for each size of a value."""
+    ports = free_ports(6)
+    peers = ",".join(f"n{n}=http://127.0.0.1:{ports[n + 3]}" for n in range(3))
+    children = []
+    try:
+        for n in range(3):
+            own, peer = f"http://127.0.0.1:{ports[n]}", f"http://127.0.0.1:{ports[n + 3]}"
+            words = ["--name", f"n{n}", "--data-dir", f"{folder}/etcd-{n}", "--listen-client-urls", own, "--advertise-client-urls", own,
+                     "--listen-peer-urls", peer, "--initial-advertise-peer-urls", peer, "--initial-cluster", peers, "--log-level", "error"]
+            children.append(subprocess.Popen(["etcd"] + words, stdout=subprocess.DEVNULL, stderr=subprocess.DEVNULL))
+
+        def call(link, name, fields):
+            link.request("POST", f"/v3/kv/{name}", json.dumps(fields))
+            answer = link.getresponse()
+            text = answer.read()
+            if answer.status != 200:
+                raise OSError(text)
+
+        def each(link, name, fields, count):
+            def work():
+                for _ in range(count):
+                    call(link, name, fields)
+            return best(work) / count * 1e3
+
+        key = base64.b64encode(b"key").decode()
+        for tries in range(100):
+            try:
+                link = http.client.HTTPConnection("127.0.0.1", ports[0], timeout=5)
+                call(link, "put", {"key": key, "value": key})
+                break
+            except (OSError, http.client.HTTPException):
+                time.sleep(0.2)
+        for size, count in ((PIECE, 100), (16, 300)):
+            value = base64.b64encode(os.urandom(size)).decode()
+            put = each(link, "put", {"key": key, "value": value}, count)
+            get = each(link, "range", {"key": key}, count)
+            print(f"etcd, 3 nodes, {size} bytes: put {put:.2f} ms, get {get:.2f} ms")
+    finally:
+        for child in children:
+            child.kill()
+            child.wait()
+
+
 def main():
     with tempfile.TemporaryDirectory() as folder:
         nodes = [(900, ["dir"]), (901, ["mrc"])] + [(n, ["osd", "--id", str(n)]) for n in (1, 2, 3)]
@@ -180,13 +230,14 @@ def main():
         dir_words = ["--dir", addresses[900]]
         children = []
 
-        def client(words):
-            done = subprocess.run([PROGRAM] + words + dir_words + TIMES, stdin=subprocess.DEVNULL, stdout=subprocess.DEVNULL)
+        def client(words, source):
+            with open(source, "rb") as stdin:
+                done = subprocess.run([PROGRAM] + words + dir_words + TIMES, stdin=stdin, stdout=subprocess.DEVNULL)
             return done.returncode
 
-        def must(words):
+        def must(words, source=os.devnull):
             for _ in range(60):
-                if client(words) == 0:
+                if client(words, source) == 0:
                     return
                 time.sleep(0.2)
             raise SystemExit(f"{words} never ended well")
@@ -202,19 +253,29 @@ def main():
                 must(["register", str(node), str(kind), addresses[node]])
             must(["mkdir", "/v"])
             must(["put", "/v/first", "--pattern", "1", "--replicas", "3"])
+            source = f"{folder}/source"
+            with open(source, "wb") as file:
+                file.write(os.urandom(SIZE))
             for replicas in (1, 3):
                 path = f"/v/r{replicas}"
-                put = ["put", path, "--pattern", str(SIZE), "--replicas", str(replicas)]
-                must(["put", path, "--pattern", "1", "--replicas", str(replicas)])
-                took = best(lambda: must(put))
+                put = ["put", path, "--replicas", str(replicas)]
+                must(put)
+                took = best(lambda: must(put, source))
                 read = best(lambda: must(["get", path]))
                 piece, plain = took / (SIZE // PIECE), modelled(replicas, PIECE, SIZE // PIECE, folder)
                 print(f"{replicas} replicas: put {SIZE / took / 1e6:.0f} MB/s ({piece * 1e3:.2f} ms a piece, {piece / plain:.2f} times the plain "
                       f"program's {plain * 1e3:.2f} ms), get {SIZE / read / 1e6:.0f} MB/s")
+            count = 1024
+            words = ["put", "/v/pieces", "--pattern", str(count << 10), "--stripe", "1024", "--replicas", "3"]
+            must(["put", "/v/pieces", "--pattern", "1", "--stripe", "1024", "--replicas", "3"])
+            piece, plain = best(lambda: must(words)) / count, modelled(3, 1024, count, folder)
+            print(f"3 replicas, writes of 1 KiB: {piece * 1e3:.2f} ms a write, {piece / plain:.2f} times the plain program's {plain * 1e3:.2f} ms")
             small = ["put", "/v/small", "--pattern", "1024", "--replicas", "3"]
             must(small)
             print(f"3 replicas, 1 KiB: put {best(lambda: must(small)) * 1e3:.1f} ms, get {best(lambda: must(['get', '/v/small'])) * 1e3:.1f} ms "
                   "(a command each)")
+            if shutil.which("etcd"):
+                etcd(folder)
             took = best(lambda: bare(folder))
             print(f"bare write and fdatasync: {SIZE / took / 1e6:.0f} MB/s ({took / (SIZE // PIECE) * 1e3:.2f} ms a piece)")
         finally:

@@ -222,7 +222,7 @@ for path in [
 for number in [1, 2]:
     job(f"make {number} 16", ["make", str(number), "16"], b"")
 
-# Short leases, so that turns pass soon. A node's wants within its link, clock, disk and streams are told as theirs.
+# Short leases, so that turns pass soon. Memory that runs out within a link, clock, disk or stream is reported as its fault.
 TIMES = ["--lease", "200", "--drift", "1", "--turns", "3"]
 ALLOWED = {5, 6, 8, 9, 11, 12}
 COMMON = ["--listen", "127.0.0.1:0", "--store", "s", "--key", "00"]

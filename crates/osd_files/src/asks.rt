@@ -143,7 +143,7 @@ fn ask_without_lease(file: &mut Parts, now: u64, ask: WaitingAsk) -> Result<Turn
 }
 
 /// A write or truncation in a turn of the primary; one that meets an issued one waits.
-fn write_served<B: Bodies>(
+fn serve_write<B: Bodies>(
     file: &mut Parts,
     bodies: &mut B,
     now: u64,
@@ -188,7 +188,7 @@ fn ask_served<B: Bodies>(
     ensures reads { ReadsOnly B.records B.fault_count bodies.old bodies.new (fault_of result) }
 {
     if !is_read(&ask.op) {
-        return write_served(file, bodies, now, ask);
+        return serve_write(file, bodies, now, ask);
     }
     read_served(file, bodies, now, &ask)
 }

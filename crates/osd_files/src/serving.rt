@@ -20,7 +20,7 @@ use xt_base::OutOfMemory;
 use xt_protocol::{Turned, WaitingAsk, quiet};
 
 /// A waiting write, where no other one is issued: it is answered, refused or issued; else it stays.
-fn waiting_write<B: Bodies>(
+fn serve_waiting_write<B: Bodies>(
     file: &mut Parts,
     bodies: &mut B,
     now: u64,
@@ -73,7 +73,7 @@ fn serve_one<B: Bodies>(
         file.asks.stay(ask)?;
         return Ok(quiet(file.alloc));
     }
-    waiting_write(file, bodies, now, ask)
+    serve_waiting_write(file, bodies, now, ask)
 }
 
 /// What was given, and then what comes of one waiting ask more.

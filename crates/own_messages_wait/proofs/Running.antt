@@ -19,7 +19,7 @@ use Rattle.client_rows.specs.Rows.{stepped}
 use Rattle.server_rows.specs.Metadata.{step_of_mrc}
 use Rattle.server_rows.specs.Directory.{step_of_dir}
 use Rattle.servers_end.specs.Servers.{EndsAtDir, EndsAtMrc}
-use Rattle.world_spec.specs.World.{World, Node, Running, Core, osd, client, mrc, dir, world_key, node_in, with_node, known, puts}
+use Rattle.world_spec.specs.World.{World, Node, Deed, Running, Core, osd, client, mrc, dir, world_key, node_in, with_node, known, puts}
 use Rattle.world_spec.specs.NodeSteps.{to_itself, after_turn, outside_of, halted}
 use Rattle.world_runs.specs.View.{awake_as}
 use Rattle.lease_runs.specs.OsdView.{site_of}
@@ -33,7 +33,7 @@ use Rattle.lease_runs.specs.OsdView.{site_of}
 use Rattle.client_rows.specs.Steps.{Step}
 use Rattle.xt_base.specs.declared.ids.FileId.{FileId}
 use Rattle.xt_protocol.specs.FileStates.{FileState}
-use Rattle.world_spec.specs.NodeSteps.{Room, Cause, Overflow, came_to, has_no_room, Doing, appends, within_limits, forgets_if, forgets_in, forgets_at, rewritten_at, overflow_of, end_of_step, event_at, event_comes, core_step, osd_steps, client_steps, mrc_steps, dir_steps, loses_own, cut_in_sending, frame_bytes}
+use Rattle.world_spec.specs.NodeSteps.{Room, Cause, Overflow, came_to, has_no_room, Doing, appends, within_limits, forgets_if, forgets_in, forgets_at, rewrites_after, rewritten_at, overflow_of, end_of_step, event_at, event_comes, core_step, osd_steps, client_steps, mrc_steps, dir_steps, loses_own, cut_in_sending, frame_bytes}
 use Rattle.xt_messages.specs.declared.status.Limited.TheVariants as limited
 use Rattle.world_runs.proofs.Frame.{however}
 use Rattle.own_messages_wait.proofs.Chains.{Chain, Falls}
@@ -44,6 +44,7 @@ use Rattle.xt_protocol.specs.FileSteps.{step_of_file}
 use Rattle.xt_protocol.specs.OsdSteps.{FilesStep, file_at, message_handled}
 use Rattle.own_messages_wait.proofs.Forgets.{alone_then, chain_then}
 use Rattle.own_messages_wait.proofs.OneFile.{AloneFalls, IsAlone, alone_falls}
+use Rattle.xt_messages.specs.declared.record.KeepBody.{KeepBody}
 use Rattle.xt_protocol.specs.Forgetting.{keep_of, osd_without}
 use Rattle.own_messages_wait.proofs.ChainSteps.{handled_about, handled_falls}
 use Rattle.own_messages_wait.proofs.Clients.{EndsAtClient}
@@ -208,26 +209,28 @@ module _ (w : World) (own : List Msg) (node : Node) (r : Running) (s : OsdState)
 
 -- where a hull rewrites the records, what is left stays
 forgets_ran : (room : Room) (d : Doing) (e k : ℕ) (id : NodeId) (rec : Option Record) (result : Result Doing Cause) → HasRan d e k result → HasRan d e k (forgets_if room id rec result)
-forgets_ran room d e k id None result ran = ran
-forgets_ran room d e k id (Some rec) (Err cause) ran = tt
-forgets_ran room d e k id (Some rec) (Ok after) ran = in_world (node_in after.world.nodes id.0) refl
+forgets_ran room d e k id rec (Err cause) ran = tt
+forgets_ran room d e k id rec (Ok after) ran = in_world (node_in after.world.nodes id.0) refl
   where
-    by_core : (node : Node) (r : Running) (core : Core) → node_in after.world.nodes node.id.0 ≡ Some node → node.up ≡ Some r → r.core ≡ core → Ran d e k (record after { world = forgets_at room after.world node r core })
+    decides : List Deed → List KeepBody → Bool
+    decides = rewrites_after room after id rec
+
+    by_core : (node : Node) (r : Running) (core : Core) → node_in after.world.nodes node.id.0 ≡ Some node → node.up ≡ Some r → r.core ≡ core → Ran d e k (record after { world = forgets_at decides after.world node r core })
     by_core node r (client c) found is_up is_core = ran
     by_core node r (mrc c) found is_up is_core = ran
     by_core node r (dir c) found is_up is_core = ran
-    by_core node r (osd s) found is_up is_core = at (room.rewrites_now node.past (keep_of s))
+    by_core node r (osd s) found is_up is_core = at (decides node.past (keep_of s))
       where
         at : (b : Bool) → Ran d e k (record after { world = cond b (record after.world { nodes = with_node after.world.nodes (rewritten_at node r s) }) after.world })
         at true = record { left = ran.left; j = ran.j; less = ran.less; chain = forgotten_chain after.world after.own node r s found is_up is_core ran.j ran.chain }
         at false = ran
 
     by_up : (node : Node) (up : Option Running) → node_in after.world.nodes node.id.0 ≡ Some node → node.up ≡ up
-        → Ran d e k (record after { world = elim up [ None ↦ after.world | Some running ↦ forgets_at room after.world node running running.core ] })
+        → Ran d e k (record after { world = elim up [ None ↦ after.world | Some running ↦ forgets_at decides after.world node running running.core ] })
     by_up node None found is_up = ran
     by_up node (Some r) found is_up = by_core node r r.core found is_up refl
 
-    in_world : (o : Option Node) → node_in after.world.nodes id.0 ≡ o → Ran d e k (record after { world = forgets_in room after.world o })
+    in_world : (o : Option Node) → node_in after.world.nodes id.0 ≡ o → Ran d e k (record after { world = forgets_in decides after.world o })
     in_world None is = ran
     in_world (Some node) is = by_up node node.up (ap (node_in after.world.nodes) (node_in-id after.world.nodes id.0 node is) ∙ is) refl
 

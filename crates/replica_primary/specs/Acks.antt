@@ -39,16 +39,16 @@ commit_told place update =
     (answers place.node place.file update.id update.stamp.count update.mark [])
 
 -- what is reported when a majority has acknowledged: that the issued update is committed, or that the primary is active
-abbrev pub carried_told : Place → FileHead → Progress → Turned
-carried_told place own (progress.Active committed (Some issued)) = commit_told place issued.update
-carried_told place own _ = shows (mark.Active place.file.number own.stamp.count own.last)
+abbrev pub report_majority : Place → FileHead → Progress → Turned
+report_majority place own (progress.Active committed (Some issued)) = commit_told place issued.update
+report_majority place own _ = shows (mark.Active place.file.number own.stamp.count own.last)
 
 -- a tenure whose head or issued update a node has acknowledged
 abbrev pub acked_by : Place → FileHead → ℕ → Tenure → NodeId → Led
 acked_by place own learnt t from =
     let p = with_ack t.progress from in
     if carries place t.peers (acked_in p)
-    then goes_on learnt (record t { progress = progress.Active own None }) (carried_told place own p)
+    then goes_on learnt (record t { progress = progress.Active own None }) (report_majority place own p)
     else unmoved learnt (record t { progress = p })
 
 -- the peers after an acknowledgement, which may have made its sender current

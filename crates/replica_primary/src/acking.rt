@@ -9,7 +9,7 @@ ghost use Rattle.xt_protocol.specs.Primaries.{carries, is_active_in, issued_in};
 ghost use Rattle.xt_protocol.specs.PrimaryRows as rows;
 ghost use Rattle.xt_protocol.specs.PrimaryRows.{goes_on};
 ghost use Rattle.replica_primary.specs.Written.{ground};
-ghost use Rattle.replica_primary.specs.Acks.{acked_by, acked_in, carried_told, commit_told, is_installing, peers_after, with_ack};
+ghost use Rattle.replica_primary.specs.Acks.{acked_by, acked_in, report_majority, commit_told, is_installing, peers_after, with_ack};
 
 use crate::known::add_node;
 use crate::moving::advance;
@@ -93,13 +93,13 @@ fn commit_told(alloc: Global, place: &Place, update: &Update) -> Result<Turned, 
 }
 
 /// What is reported when a majority has acknowledged: that the issued update is committed, or that the primary is active.
-fn carried_told(
+fn report_majority(
     alloc: Global,
     place: &Place,
     own: &FileHead,
     progress: &Progress,
 ) -> Result<Turned, OutOfMemory>
-    ensures { IfOk result (λ turned. turned ≡ carried_told place.now own.now progress.now) }
+    ensures { IfOk result (λ turned. turned ≡ report_majority place.now own.now progress.now) }
 {
     if let Progress::Active {
         issued: Some(issued),
@@ -146,7 +146,7 @@ fn acked_by(
         return Ok(quiet(alloc));
     }
     let committed = own.copy(alloc)?;
-    let told = carried_told(alloc, place, own, &tenure.progress)?;
+    let told = report_majority(alloc, place, own, &tenure.progress)?;
     serve_from(tenure, committed);
     Ok(told)
 }
@@ -161,7 +161,7 @@ fn make_current(peers: &mut Peers, from: NodeId, newly: bool)
 }
 
 /// The update to a peer that has just become current; nothing to one that was.
-fn sent_to_newly(
+fn send_to_new_peer(
     alloc: Global,
     place: &Place,
     from: NodeId,
@@ -217,7 +217,7 @@ fn active_acked(
         return Ok(quiet(alloc));
     };
     if is_below(stamp, issued.update.stamp) {
-        return sent_to_newly(alloc, place, from, newly, &issued.update);
+        return send_to_new_peer(alloc, place, from, newly, &issued.update);
     }
     acked_by(alloc, place, tenure, own, from)
 }

@@ -224,7 +224,7 @@ fn split(wanted: Versions) -> Option<(ObjectVersion, Versions)>
 }
 
 /// The head is installed, and the body is kept that was just fetched for it, if one was.
-pub fn installs_keeping<B: Bodies>(
+pub fn install_and_keep<B: Bodies>(
     bodies: &mut B,
     alloc: Global,
     place: &Place,

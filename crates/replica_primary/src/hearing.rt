@@ -23,7 +23,7 @@ use crate::acking::{hears_ack, makes_current};
 use crate::drawing::redrawn;
 use crate::feeding::{body_missed, body_staged, feeds_on};
 use crate::fetching::{hears_missing, hears_object};
-use crate::gathering::{installs_keeping, status_told};
+use crate::gathering::{install_and_keep, status_told};
 use crate::moving::{Heard, Next, put, unmoved};
 use crate::peers::{peer_in, set_peer};
 use object_versions::{Bodies, StepErr, is_earlier, is_epoch};
@@ -168,7 +168,7 @@ fn version_of(object: u64, version: Stamp) -> ObjectVersion
 
 /// A message of the primary's epoch, from a peer, that doesn't report what became of a body that was sent, is no acknowledgement, and
 /// after which the tenure goes on.
-fn goes_on_hearing(
+fn hear_in_tenure(
     alloc: Global,
     place: &Place,
     tenure: &mut Tenure,
@@ -249,7 +249,7 @@ fn hears_peer(
             Ok(outpromised(alloc, learnt, tenure.epoch, *promised))
         }
         _ => {
-            let next = goes_on_hearing(alloc, place, tenure, own, held, from, payload)?;
+            let next = hear_in_tenure(alloc, place, tenure, own, held, from, payload)?;
             Ok(Heard::GoesOn { next })
         }
     }
@@ -310,7 +310,7 @@ fn proceeds<B: Bodies>(
             feeds_on(bodies, alloc, place, tenure, searches, own, from, known)
         }
         Next::Installs { chosen, fetched } => {
-            installs_keeping(bodies, alloc, place, tenure, own, chosen, fetched)
+            install_and_keep(bodies, alloc, place, tenure, own, chosen, fetched)
         }
     }
 }

@@ -21,7 +21,7 @@ use Rattle.world_spec.specs.declared.TheConstants.{MESSAGES, MESSAGE_BYTES, NODE
 use Rattle.world_spec.specs.declared.Sent.{Sent}
 use Rattle.client_rows.specs.Steps.{Step}
 use Rattle.world_spec.specs.World.{World, Node, puts, loads, Running, Core, osd, client, mrc, dir, node_in, with_node}
-use Rattle.world_spec.specs.NodeSteps.{Room, Overflow, Cause, came_to, has_no_room, Doing, frame_bytes, core_step, after_turn, halted, keeps_record, one_more, one_put, forgets_if, cut_in_sending, sends, appends, within_limits, overflow_of, end_of_step, event_at, event_comes}
+use Rattle.world_spec.specs.NodeSteps.{Room, Overflow, Cause, came_to, has_no_room, Doing, frame_bytes, core_step, after_turn, halted, keeps_record, one_more, one_put, rewrites_after, forgets_if, cut_in_sending, sends, appends, within_limits, overflow_of, end_of_step, event_at, event_comes}
 use Rattle.world_spec.specs.Lines.{Next, finished, opens, goes_on, ends, opening, begins, does, declares, next_boot, starts, starts_as, changed, stops, crashes, cuts, reads_clock, core_calls, calls, core_calls_again, calls_again, aims, no_longer_pending, delivers, least_pending, first_step, went, settles, works_on, next_step, steps, so_far, enough, done}
 use Rattle.world_spec.specs.Runs.{IsPartOf}
 use Rattle.world_step.proofs.Forgetting.{only_nodes}
@@ -103,10 +103,9 @@ with_room w None r goes = goes
 
 -- what a node forgets is in no entry
 forgets_grows : (room : Room) (w : World) (id : NodeId) (rec : Option Record) (r : Result Doing Cause) → GoesOn w r → GoesOn w (forgets_if room id rec r)
-forgets_grows room w id None r goes = goes
-forgets_grows room w id (Some rec) (Err cause) goes = tt
-forgets_grows room w id (Some rec) (Ok d) goes =
-    let only = only_nodes room d.world (node_in d.world.nodes id.0) in
+forgets_grows room w id rec (Err cause) goes = tt
+forgets_grows room w id rec (Ok d) goes =
+    let only = only_nodes (rewrites_after room d id rec) d.world (node_in d.world.nodes id.0) in
     record {
       same = ap (λ (v : World). v.lines) only ∙ goes.same;
       ended = ap (λ (v : World). v.ended) only ∙ goes.ended;

@@ -73,4 +73,5 @@ abbrev pub journal_room : Room
 journal_room = record {
   overflow = λ past rec. journal_overflow (laid_by past).superblock (laid_by past).records rec;
   rewrites_now = λ past keep. rewrites_at (laid_by past) keep;
+  rewrites_idle = λ d id past keep. false;
 }

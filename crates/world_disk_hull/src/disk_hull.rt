@@ -128,6 +128,8 @@ impl Hull for DiskHull {
 
     ghost room = { journal_room };
 
+    ghost waits = { λ d id past keep i. false };
+
     fn carry(&mut self, alloc: Global, msg: &Msg) -> Result<Msg, WorldErr> {
         self.carried = self.carried.saturating_add(1);
         Ok(carried(alloc, self.carried, msg)?)

@@ -7,7 +7,7 @@ use Rattle.xt_messages.specs.declared.record.KeepBody.{KeepBody}
 use Rattle.xt_messages.specs.declared.record.Record.{Record}
 use Rattle.xt_protocol.specs.Folds.{nothing_kept, AreInPlace}
 use Rattle.xt_protocol.specs.Forgetting.{rewritten}
-use Rattle.world_spec.specs.NodeSteps.{Room}
+use Rattle.world_spec.specs.NodeSteps.{Doing, Room}
 use Rattle.world_spec.specs.World.{Deed, rewrites}
 use Rattle.world_hull.specs.Appends.{Logs, with_deed}
 
@@ -20,6 +20,10 @@ pub record MayBecome (keep : List KeepBody) (records : List Record) : Type 0 whe
 -- the records are rewritten at no choice of bodies
 abbrev pub IsNeverNow : Room → List Deed → Type 0
 IsNeverNow room past = (keep : List KeepBody) → room.rewrites_now past keep ≡ false
+
+-- no records are rewritten after a step that put none
+abbrev pub RewritesAfterPuts : Room → Type 0
+RewritesAfterPuts room = (d : Doing) (id : NodeId) (past : List Deed) (keep : List KeepBody) → room.rewrites_idle d id past keep ≡ false
 
 -- the records of each node, those of this node rewritten with these bodies
 abbrev pub with_rewritten : (ℕ → List Record) → NodeId → List KeepBody → ℕ → List Record

@@ -7,7 +7,7 @@ ghost use Rattle.world_spec.specs.World.{Deed};
 ghost use Rattle.world_hull.specs.Answers.{IsFullOrMemory, IsFullExactly, GivesBody};
 ghost use Rattle.world_hull.specs.Appends.{IsInAppend, IsAppended, AreAllSame, AreOthersSame, kept_by};
 ghost use Rattle.world_hull.specs.Revivals.{IsRevived};
-ghost use Rattle.world_hull.specs.Rewritings.{MayBecome, IsNeverNow, IsCompacted};
+ghost use Rattle.world_hull.specs.Rewritings.{MayBecome, IsNeverNow, IsCompacted, RewritesAfterPuts};
 
 use crate::errors::WorldErr;
 use disk_model::{OPEN_GATE, Stop};
@@ -56,6 +56,9 @@ pub trait Hull: Drop {
     /// What is decided by what was done to a node's records: whether one more has no room, and what it would need; and
     /// whether they are rewritten now with these bodies.
     ghost room: { Room };
+
+    /// Records are rewritten only right after one was put.
+    ghost waits: { RewritesAfterPuts room };
 
     /// The very message, or `OutOfMemory`.
     fn carry(&mut self, alloc: Global, msg: &Msg) -> Result<Msg, WorldErr>

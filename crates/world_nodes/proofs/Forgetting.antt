@@ -29,7 +29,7 @@ rewritten_with keep node =
 module _ (room : Room) (view : NodesView) (node : Node) where
   -- an OSD that runs forgets where its records are rewritten now
   pub forgets_by : (keep : List KeepBody) (now : Bool) → needed_by node.up ≡ Some keep → room.rewrites_now node.past keep ≡ now
-      → forgotten_in room view (Some node) ≡ cond now (with_node view.nodes (rewritten_with keep node)) view.nodes
+      → forgotten_in room.rewrites_now view (Some node) ≡ cond now (with_node view.nodes (rewritten_with keep node)) view.nodes
   forgets_by keep now needed is = by_up node.up needed
     where
       next : Option Running → Node
@@ -43,7 +43,7 @@ module _ (room : Room) (view : NodesView) (node : Node) where
           ap (λ (k : List KeepBody). with_node view.nodes (record node { kept = rewritten k node.kept; past = node.past ++ rewrites k ∷ []; up = Some (record running { core = osd (osd_without k s) }) })) same
 
       by_core : (running : Running) (core : Core) → needed_at core ≡ Some keep
-          → (forgets_at room (bare view) node running core).nodes ≡ cond now (with_node view.nodes (next (Some (record running { core = forgets keep core })))) view.nodes
+          → (forgets_at room.rewrites_now (bare view) node running core).nodes ≡ cond now (with_node view.nodes (next (Some (record running { core = forgets keep core })))) view.nodes
       by_core running (client c) e = absurd (cc)
       by_core running (mrc m) e = absurd (cc)
       by_core running (dir d) e = absurd (cc)
@@ -56,7 +56,7 @@ module _ (room : Room) (view : NodesView) (node : Node) where
           the_same a b e = cc
 
       by_up : (up : Option Running) → needed_by up ≡ Some keep
-          → (elim up as (λ x. World) [ None ↦ bare view | Some running ↦ forgets_at room (bare view) node running running.core ]).nodes
+          → (elim up as (λ x. World) [ None ↦ bare view | Some running ↦ forgets_at room.rewrites_now (bare view) node running running.core ]).nodes
           ≡ cond now (with_node view.nodes (next (option_map (running_without keep) up))) view.nodes
       by_up None e = absurd (cc)
       by_up (Some running) e = by_core running running.core e

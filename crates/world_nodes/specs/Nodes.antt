@@ -7,6 +7,7 @@ use Rattle.xt_base.specs.declared.ids.NodeId.{NodeId}
 use Rattle.xt_messages.specs.declared.event.Call.{Call}
 use Rattle.xt_messages.specs.declared.event.Event.{Event}
 use Rattle.xt_messages.specs.declared.record.Record.{Record}
+use Rattle.xt_messages.specs.declared.record.KeepBody.{KeepBody}
 use Rattle.xt_protocol.specs.declared.turned.Turned.{Turned}
 use Rattle.client_rows.specs.Steps.{Step}
 use Rattle.client_rows.specs.Rows.{WholeClient}
@@ -128,12 +129,12 @@ after_put rec node = record node { kept = one_more node.kept rec; past = one_put
 -- ---- forgetting
 
 -- the nodes once this one of them, if it is there, forgot what it doesn't need: where it runs, and its records are rewritten now
-abbrev pub forgotten_in : Room → NodesView → Option Node → List Node
-forgotten_in room view found = (forgets_in room (bare view) found).nodes
+abbrev pub forgotten_in : (List Deed → List KeepBody → Bool) → NodesView → Option Node → List Node
+forgotten_in decides view found = (forgets_in decides (bare view) found).nodes
 
 -- the node there forgot so
 abbrev pub Forgets : Room → NodesView → ℕ → NodesView → Type 0
-Forgets room old place new = (node : Node) → IsAt old.nodes place node → new ≡ record old { nodes = forgotten_in room old (Some node) }
+Forgets room old place new = (node : Node) → IsAt old.nodes place node → new ≡ record old { nodes = forgotten_in room.rewrites_now old (Some node) }
 
 -- ---- lists of nodes as code has them
 

@@ -28,10 +28,10 @@ use Rattle.world_spec.specs.declared.Role.TheVariants as role
 use Rattle.server_rows.specs.Metadata.{MrcState, step_of_mrc}
 use Rattle.server_rows.specs.Directory.{DirState, step_of_dir}
 use Rattle.client_rows.specs.Rows.{WholeClient, is_busy, may_repeat, called, called_again, stepped}
-use Rattle.world_spec.specs.World.{World, start_world, Node, Running, Core, osd, client, mrc, dir, world_key, node_in, with_node, file_in, is_server, up_of, puts, loads}
+use Rattle.world_spec.specs.World.{World, start_world, Node, Deed, Running, Core, osd, client, mrc, dir, world_key, node_in, with_node, file_in, is_server, up_of, puts, loads}
 use Rattle.world_spec.specs.Rules.{refusal, if_so, no_server, no_node, node_twice, usable, runs_already, runs_not, drifts, drifts_inside, goes_back, clock_ends}
 use Rattle.client_rows.specs.Called.{called_file}
-use Rattle.world_spec.specs.NodeSteps.{Room, Cause, came_to, has_no_room, Overflow, Doing, halted, client_steps, mrc_steps, dir_steps, event_comes, forgets_at, forgets_in, forgets_if, rewritten_at}
+use Rattle.world_spec.specs.NodeSteps.{Room, Cause, came_to, has_no_room, Overflow, Doing, halted, client_steps, mrc_steps, dir_steps, event_comes, forgets_at, forgets_in, forgets_if, rewrites_after, rewritten_at}
 use Rattle.world_spec.specs.Lines.{does, tells, declares, never_started, declared_file, runs, first_boot, next_boot, starts_as, starts, changed, stops, crashes, cuts, reads_clock, whole_client, ready_for, core_calls, calls, core_calls_again, calls_again, aimed_on, aims_at, aims, no_longer_pending, delivers, least_pending, first_step, Next, finished, opens, goes_on, ends, opening, begins, went, settles, works_on, next_step, steps, so_far}
 use Rattle.world_runs.specs.View.{messages}
 use Rattle.world_runs.proofs.Lists.{set_same}
@@ -40,6 +40,7 @@ use Rattle.world_runs.proofs.Drifts.{close_by}
 use Rattle.std.specs.Prelude.{take, drop}
 use Rattle.std.proofs.lemmas.List.{append-nil, take-append-drop}
 use Rattle.xt_messages.specs.declared.event.Event.{Event}
+use Rattle.xt_messages.specs.declared.record.KeepBody.{KeepBody}
 use Rattle.xt_protocol.specs.declared.turned.Turned.{Turned}
 use Rattle.time_line.specs.declared.entry.Halt.{Halt}
 use Rattle.lease_safety.specs.Legal.{IsClose}
@@ -279,28 +280,29 @@ module _ (P : World → List Msg → Type 0) (keeps : IsKept P) where
 
   -- whether it forgets or not
   forgets_kept : (room : Room) (id : NodeId) (rec : Option Record) (result : Result Doing Cause) → ResultIs result → ResultIs (forgets_if room id rec result)
-  forgets_kept room id None (Ok d) p = p
-  forgets_kept room id None (Err cause) p = tt
-  forgets_kept room id (Some rec) (Err cause) p = tt
-  forgets_kept room id (Some rec) (Ok d) p = in_world (node_in d.world.nodes id.0) refl
+  forgets_kept room id rec (Err cause) p = tt
+  forgets_kept room id rec (Ok d) p = in_world (node_in d.world.nodes id.0) refl
     where
-      by_core : (node : Node) (r : Running) (core : Core) → node_in d.world.nodes node.id.0 ≡ Some node → node.up ≡ Some r → r.core ≡ core → P (forgets_at room d.world node r core) d.own
+      decides : List Deed → List KeepBody → Bool
+      decides = rewrites_after room d id rec
+
+      by_core : (node : Node) (r : Running) (core : Core) → node_in d.world.nodes node.id.0 ≡ Some node → node.up ≡ Some r → r.core ≡ core → P (forgets_at decides d.world node r core) d.own
       by_core node r (client c) found is_up is_core = p
       by_core node r (mrc m) found is_up is_core = p
       by_core node r (dir s) found is_up is_core = p
       by_core node r (osd s) found is_up is_core =
-          at (room.rewrites_now node.past (keep_of s))
+          at (decides node.past (keep_of s))
         where
           at : (b : Bool) → P (cond b (record d.world { nodes = with_node d.world.nodes (rewritten_at node r s) }) d.world) d.own
           at true = keeps.forgotten d.world d.own node r s found is_up is_core p
           at false = p
 
       by_up : (node : Node) (up : Option Running) → node_in d.world.nodes node.id.0 ≡ Some node → node.up ≡ up
-          → P (elim up [ None ↦ d.world | Some running ↦ forgets_at room d.world node running running.core ]) d.own
+          → P (elim up [ None ↦ d.world | Some running ↦ forgets_at decides d.world node running running.core ]) d.own
       by_up node None found is_up = p
       by_up node (Some r) found is_up = by_core node r r.core found is_up refl
 
-      in_world : (o : Option Node) → node_in d.world.nodes id.0 ≡ o → P (forgets_in room d.world o) d.own
+      in_world : (o : Option Node) → node_in d.world.nodes id.0 ≡ o → P (forgets_in decides d.world o) d.own
       in_world None is = p
       in_world (Some node) is = by_up node node.up (ap (node_in d.world.nodes) (node_in-id d.world.nodes id.0 node is) ∙ is) refl
 

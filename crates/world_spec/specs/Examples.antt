@@ -49,11 +49,15 @@ use Rattle.world_spec.specs.Runs.{after, run_of}
 
 -- there is always room, and nothing is forgotten
 abbrev pub ample : Room
-ample = record { overflow = λ past rec. None; rewrites_now = λ past keep. false }
+ample = record { overflow = λ past rec. None; rewrites_now = λ past keep. false; rewrites_idle = λ d id past keep. false }
 
 -- there is always room, and all that may be forgotten is, after each record
 abbrev pub eager : Room
-eager = record { overflow = λ past rec. None; rewrites_now = λ past keep. true }
+eager = record { overflow = λ past rec. None; rewrites_now = λ past keep. true; rewrites_idle = λ d id past keep. false }
+
+-- there is always room, and all that may be forgotten is, after each step, whether it puts a record or not
+abbrev pub restless : Room
+restless = record { overflow = λ past rec. None; rewrites_now = λ past keep. true; rewrites_idle = λ d id past keep. true }
 
 -- how many records were put
 abbrev pub is_put : Deed → Bool
@@ -65,6 +69,7 @@ abbrev pub room_for : ℕ → Room
 room_for count = record {
   overflow = λ past rec. if nat_lt (count_by is_put past) count then None else Some (record { need = count_by is_put past + 1; limit = count });
   rewrites_now = λ past keep. false;
+  rewrites_idle = λ d id past keep. false;
 }
 
 -- the world after these lines
@@ -411,6 +416,29 @@ fed_again_trace =
     ∷ entry.Issue (node 1) 2 1 (id_of 10 2) ∷ entry.Commit (node 1) 2 1 (id_of 10 2) ∷ entry.Answer (node 1) 2 (id_of 10 2) 1 [] ∷ is_done 10 2 1 []
     ∷ entry.Down (node 2) 2200 halt.Idle
     ∷ writes_at 10 3 1 (98 ∷ []) ∷ is_issued 1 2 10 3 ∷ is_committed 1 2 10 3 ∷ is_answered 1 10 3 2 [] ∷ is_done 10 3 2 [] ∷ []
+
+-- The same without that write. OSD 3 puts no record between its start and the head that comes late, so the body is forgotten only
+-- where an OSD forgets after a step that puts none.
+abbrev pub fed_later : List Line
+fed_later =
+    short_times ∷ osd_is 1 ∷ osd_is 2 ∷ osd_is 3 ∷ client_at 10 0 ∷ start_at 1 0 ∷ start_at 2 0 ∷ start_at 3 0
+    ∷ file_on trio ∷ line.Tick 1100 ∷ write_at 10 0 (97 ∷ [])
+    ∷ line.Deliver 1 ∷ line.Deliver 2 ∷ line.Drop 3 ∷ line.Deliver 4 ∷ line.Deliver 5 ∷ line.Deliver 6 ∷ line.Deliver 7 ∷ line.Drop 8
+    ∷ line.Deliver 9 ∷ line.Deliver 10 ∷ line.Deliver 11 ∷ line.Deliver 12 ∷ line.Deliver 13 ∷ line.Deliver 14
+    ∷ line.Wake (node 1) ∷ line.Deliver 15 ∷ line.Deliver 16 ∷ line.Deliver 17 ∷ line.Deliver 18 ∷ line.Drop 19
+    ∷ line.Stop (node 3) ∷ start_at 3 1100 ∷ line.Tick 500 ∷ line.Wake (node 1) ∷ line.Settle 100
+    ∷ line.Tick 600 ∷ line.Wake (node 3)
+    ∷ line.Deliver 19 ∷ line.Settle 100 ∷ line.Stop (node 2) ∷ write_at 10 1 (98 ∷ []) ∷ line.Settle 100 ∷ []
+
+abbrev pub fed_later_trace : List Entry
+fed_later_trace =
+    entry.Times 1000 100 ∷ is_up 10 1 0 ∷ is_up 1 1 0 ∷ is_up 2 1 0 ∷ is_up 3 1 0
+    ∷ entry.File 1 (list_of trio) ∷ entry.Tick 1100
+    ∷ writes_at 10 1 0 (97 ∷ []) ∷ is_held 1 2100 ∷ is_active 1 0 0 0 ∷ is_issued 1 1 10 1 ∷ is_committed 1 1 10 1
+    ∷ is_answered 1 10 1 1 [] ∷ is_done 10 1 1 []
+    ∷ entry.Down (node 3) 1100 halt.Idle ∷ is_up 3 2 1100 ∷ entry.Tick 500 ∷ is_held 1 2600 ∷ entry.Tick 600
+    ∷ entry.Down (node 2) 2200 halt.Idle
+    ∷ writes_at 10 2 1 (98 ∷ []) ∷ is_issued 1 2 10 2 ∷ is_committed 1 2 10 2 ∷ is_answered 1 10 2 2 [] ∷ is_done 10 2 2 [] ∷ []
 
 -- how many messages of these lines report that a body is missing
 abbrev pub tells_missing : Payload → Bool

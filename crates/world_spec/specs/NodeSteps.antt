@@ -37,11 +37,20 @@ pub record Overflow : Type 0 where
   pub need : ℕ
   pub limit : ℕ
 
--- What a hull decides by what was done to the records of a node: whether one more has no room, and whether they are rewritten now
--- with these bodies.
+-- A line at work: the world so far, the messages of the stepping node to itself that it hasn't handled, first in first out,
+-- and how many deliveries are left.
+pub record Doing : Type 0 where
+  pub world : World
+  pub own : List Msg
+  pub left : ℕ
+
+-- What a hull decides by what was done to the records of a node: whether one more has no room; and whether they are rewritten with
+-- these bodies, after a step that put one, and after a step of this node that put none. The latter may depend on all that was done
+-- before. A hull of a replay never does it, a served node does it when it likes.
 pub record Room : Type 0 where
   pub overflow : List Deed → Record → Option Overflow
   pub rewrites_now : List Deed → List KeepBody → Bool
+  pub rewrites_idle : Doing → NodeId → List Deed → List KeepBody → Bool
 
 -- why a line ends before its last step
 pub data Cause : Type 0 where
@@ -149,13 +158,6 @@ cut_in_sending w node running count turned =
     halted (after_turn w node running (record turned { outs = take count turned.outs }))
     (record node { kept = one_more node.kept turned.rec; past = one_put node.past turned.rec }) running halt.Cut
 
--- A line at work: the world so far, the messages of the stepping node to itself that it hasn't handled, first in first out,
--- and how many deliveries are left.
-pub record Doing : Type 0 where
-  pub world : World
-  pub own : List Msg
-  pub left : ℕ
-
 -- the node has stopped: the messages to itself are lost
 abbrev pub loses_own : Doing → World → Doing
 loses_own d w = record d { world = w; own = [] }
@@ -197,22 +199,27 @@ rewritten_at node running s =
       up = Some (record running { core = osd (osd_without (keep_of s) s) });
     }
 
--- a running OSD forgets where its hull rewrites its records now
-abbrev pub forgets_at : Room → World → Node → Running → Core → World
-forgets_at room w node running (client c) = w
-forgets_at room w node running (mrc m) = w
-forgets_at room w node running (dir s) = w
-forgets_at room w node running (osd s) =
-    if room.rewrites_now node.past (keep_of s) then record w { nodes = with_node w.nodes (rewritten_at node running s) } else w
+-- a running OSD forgets where its records are rewritten
+abbrev pub forgets_at : (List Deed → List KeepBody → Bool) → World → Node → Running → Core → World
+forgets_at decides w node running (client c) = w
+forgets_at decides w node running (mrc m) = w
+forgets_at decides w node running (dir s) = w
+forgets_at decides w node running (osd s) =
+    if decides node.past (keep_of s) then record w { nodes = with_node w.nodes (rewritten_at node running s) } else w
 
-abbrev pub forgets_in : Room → World → Option Node → World
-forgets_in room w None = w
-forgets_in room w (Some node) = elim node.up [ None ↦ w | Some running ↦ forgets_at room w node running running.core ]
+abbrev pub forgets_in : (List Deed → List KeepBody → Bool) → World → Option Node → World
+forgets_in decides w None = w
+forgets_in decides w (Some node) = elim node.up [ None ↦ w | Some running ↦ forgets_at decides w node running running.core ]
 
--- after a step that put a record and left its node running, before the node's messages to itself
+-- whether records are rewritten after a step of this node
+abbrev pub rewrites_after : Room → Doing → NodeId → Option Record → List Deed → List KeepBody → Bool
+rewrites_after room d id (Some rec) = room.rewrites_now
+rewrites_after room d id None = room.rewrites_idle d id
+
+-- after a step that left its node running, before the node's next message to itself
 abbrev pub forgets_if : Room → NodeId → Option Record → Result Doing Cause → Result Doing Cause
-forgets_if room id (Some rec) (Ok d) = Ok (record d { world = forgets_in room d.world (node_in d.world.nodes id.0) })
-forgets_if room id _ result = result
+forgets_if room id rec (Ok d) = Ok (record d { world = forgets_in (rewrites_after room d id rec) d.world (node_in d.world.nodes id.0) })
+forgets_if room id rec (Err cause) = Err cause
 
 -- The end of a step of a running node: its record must have room, and then its messages must be within the limits. Then it may forget.
 abbrev pub end_of_step : Room → Doing → Node → Running → Step Core → Result Doing Cause

@@ -48,7 +48,7 @@ ghost use Rattle.world_spec.specs.NodeSteps.{Room};
 ghost use Rattle.world_spec.specs.Runs.{IsPartOf, IsEnough, IsRun, IsRunInto, AreRunsSafe};
 ghost use Rattle.time_line.specs.Verdicts.{IsSafe, IsBroken, Break};
 ghost use Rattle.world_spec.specs.ServerExamples.{granted, granted_trace, left_out, left_out_trace, metadata, metadata_trace, registry, registry_trace};
-ghost use Rattle.world_spec.specs.Examples.{missing_in, ample, trace_of, trace_in, rule_behind, room_for, eager, taught, taught_trace, full, full_trace, fuller_trace, alone, alone_trace, turns_edge, turns_edge_trace, silence, silence_trace, drifting, clock_set, repeats, repeats_trace, vanished, vanished_trace, found, found_trace, third_answers, third_answers_trace, none_answers, none_answers_trace, node, made_again, made_again_trace, goes_again, striped, striped_trace, cut_short, cut_short_trace, fed_again, fed_again_trace, held_in_turn, held_in_turn_trace};
+ghost use Rattle.world_spec.specs.Examples.{missing_in, ample, trace_of, trace_in, rule_behind, room_for, eager, restless, taught, taught_trace, full, full_trace, fuller_trace, alone, alone_trace, turns_edge, turns_edge_trace, silence, silence_trace, drifting, clock_set, repeats, repeats_trace, vanished, vanished_trace, found, found_trace, third_answers, third_answers_trace, none_answers, none_answers_trace, node, made_again, made_again_trace, goes_again, striped, striped_trace, cut_short, cut_short_trace, fed_again, fed_again_trace, fed_later, fed_later_trace, held_in_turn, held_in_turn_trace};
 
 /// The definitions are read.
 pub fn definitions()
@@ -79,6 +79,11 @@ pub fn examples()
     ensures forgotten_body { missing_in eager fed_again ≡ 1 }
     ensures kept_body { missing_in ample fed_again ≡ 0 }
     ensures forgetful_turns { trace_in eager held_in_turn ≡ held_in_turn_trace }
+    ensures restless_there { trace_in restless found ≡ found_trace }
+    ensures restless_turns { trace_in restless held_in_turn ≡ held_in_turn_trace }
+    ensures restless_fed { trace_in restless fed_later ≡ fed_later_trace }
+    ensures forgotten_between { missing_in restless fed_later ≡ 1 }
+    ensures kept_between { missing_in eager fed_later ≡ 0 }
     ensures drifts { rule_behind drifting clock_set ≡ Some (rule.Drift 101 0) }
     ensures again { trace_of repeats ≡ repeats_trace }
     ensures lost { trace_of vanished ≡ vanished_trace }

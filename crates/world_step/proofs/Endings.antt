@@ -24,6 +24,7 @@ use Rattle.world_spec.specs.NodeSteps.{Room, Cause, has_no_room, Overflow, Doing
 use Rattle.world_tables.specs.Limits.{limit_passed, within}
 use Rattle.world_tables.proofs.Limits.{within_limits_is}
 use Rattle.world_hull.specs.Appends.{kept_by}
+use Rattle.world_hull.specs.Rewritings.{RewritesAfterPuts}
 use Rattle.world_hull.specs.declared.errors.WorldErr.{WorldErr}
 use Rattle.std.specs.List.{AllByRecursion}
 use Rattle.std.specs.Option.{IfSome}
@@ -244,18 +245,18 @@ gave_of was node rec outs = record was.doing { world = given was.doing.world nod
 abbrev pub told_of : Doing → List Entry → List PlacedFile → List Msg → Doing
 told_of d entries made own = record d { world = record d.world { made = made; entries = entries }; own = own }
 
-pub whole_done : (room : Room) (old new : Working) (node : Node) (running : Running) (turned : Turned) (told : List Entry) (files : List PlacedFile) → node.up ≡ Some running
+pub whole_done : (room : Room) → RewritesAfterPuts room → (old new : Working) (node : Node) (running : Running) (turned : Turned) (told : List Entry) (files : List PlacedFile) → node.up ≡ Some running
     → told ≡ map (entry_of node.id) turned.marks → files ≡ files_marked turned.marks → cause_against room old.doing.world node turned.rec turned.outs ≡ None
     → new ≡ record old { doing = told_of (forgot room node.id turned.rec (gave_of old node turned.rec turned.outs)) (old.doing.world.entries ++ told) (old.doing.world.made ++ files) (old.doing.own ++ to_itself node.id turned.outs) }
     → (ended_whole room old.doing node running turned ≡ Ok new.doing) × WentOn old new
-whole_done room old new node running turned told files is_up is_told is_files none is =
+whole_done room waits old new node running turned told files is_up is_told is_files none is =
     let w : World = old.doing.world in
     let own : List Msg = old.doing.own ++ to_itself node.id turned.outs in
     let marks : List Entry = w.entries ++ map (entry_of node.id) turned.marks in
     let made : List PlacedFile = w.made ++ files_marked turned.marks in
     let after : Doing = record old.doing { world = after_turn w node running turned; own = own } in
     stepped_ok old (ended_whole room old.doing node running turned) (forgot room node.id turned.rec after) new
-    (done_is room w node turned.rec turned.outs after refl none ∙ forgot_is room node.id turned.rec after)
+    (done_is room w node turned.rec turned.outs after refl none ∙ forgot_is room waits node.id turned.rec after)
     (is
     ∙ ap (λ (es : List Entry). record old { doing = told_of (forgot room node.id turned.rec (gave_of old node turned.rec turned.outs)) (w.entries ++ es) (w.made ++ files) own }) is_told
     ∙ ap (λ (fs : List PlacedFile). record old { doing = told_of (forgot room node.id turned.rec (gave_of old node turned.rec turned.outs)) marks (w.made ++ fs) own }) is_files
@@ -426,21 +427,21 @@ forgot_not T S room was gave new place node rec outs value cause e at gives forg
     )
 
 -- what it forgot isn't reported
-pub forgot_untold : (T S : Type 0) (room : Room) (was gave between new : Working) (place : ℕ) (node : Node) (rec : Option Record) (outs : List Msg) (value : T) (done : S)
+pub forgot_untold : (T S : Type 0) (room : Room) → RewritesAfterPuts room → (was gave between new : Working) (place : ℕ) (node : Node) (rec : Option Record) (outs : List Msg) (value : T) (done : S)
     → IsAt was.doing.world.nodes place node → IsGiven {T = T} room was node rec outs gave (Ok value)
     → ((n : Node) → IsAt gave.doing.world.nodes place n → IsStepped {T = S} gave (forgets_if room n.id rec (Ok gave.doing)) between (Ok done))
     → IsUntold between new → IsUntold was new
-forgot_untold T S room was gave between new place node rec outs value done at gives forgets untold =
+forgot_untold T S room waits was gave between new place node rec outs value done at gives forgets untold =
     let so = forgets (after_put rec node) (gave_at T room was gave place node rec outs value at gives) in
     given_untold T room was gave new node rec outs value gives (record {
-      entries = untold.entries ∙ ap (λ (d : Doing). d.world.entries) (sym (forgot_to room node.id rec gave.doing between.doing so.0)) ∙ forgot_entries room node.id rec gave.doing;
+      entries = untold.entries ∙ ap (λ (d : Doing). d.world.entries) (sym (forgot_to room waits node.id rec gave.doing between.doing so.0)) ∙ forgot_entries room node.id rec gave.doing;
       lines = untold.lines ∙ so.1.lines;
       begun = untold.begun ∙ ap (λ (x : Working). x.begun) so.1.rest;
       ended = untold.ended ∙ so.1.ended;
     })
 
 -- all comes of it
-pub whole_told : (T S : Type 0) (room : Room) (was self gave between new : Working) (place : ℕ) (node : Node) (running : Running) (turned : Turned) (value : T) (done : S) (outs : List Msg) (id : NodeId) (told es : List Entry) (files fs : List PlacedFile) (own : List Msg)
+pub whole_told : (T S : Type 0) (room : Room) → RewritesAfterPuts room → (was self gave between new : Working) (place : ℕ) (node : Node) (running : Running) (turned : Turned) (value : T) (done : S) (outs : List Msg) (id : NodeId) (told es : List Entry) (files fs : List PlacedFile) (own : List Msg)
     → was ≡ self → IsAt self.doing.world.nodes place node → node.up ≡ Some running
     → ((n : Node) → IsAt was.doing.world.nodes place n → IsGiven {T = T} room was n turned.rec outs gave (Ok value))
     → ((n : Node) → IsAt gave.doing.world.nodes place n → IsStepped {T = S} gave (forgets_if room n.id turned.rec (Ok gave.doing)) between (Ok done))
@@ -448,7 +449,7 @@ pub whole_told : (T S : Type 0) (room : Room) (was self gave between new : Worki
     → es ≡ between.doing.world.entries ++ told → fs ≡ between.doing.world.made ++ files → own ≡ between.doing.own ++ to_itself id turned.outs
     → new ≡ record between { doing = told_of between.doing es fs own }
     → (ended_whole room self.doing node running turned ≡ Ok new.doing) × WentOn self new
-whole_told T S room was self gave between new place node running turned value done outs id told es files fs own is at up gives forgets is_outs its is_told is_files is_es is_fs is_own is_new =
+whole_told T S room waits was self gave between new place node running turned value done outs id told es files fs own is at up gives forgets is_outs its is_told is_files is_es is_fs is_own is_new =
     let there = subst (λ (x : Working). IsAt x.doing.world.nodes place node) (sym is) at in
     let given_so = gives node there in
     let so = forgets (after_put turned.rec node) (gave_at T room was gave place node turned.rec outs value there given_so) in
@@ -456,10 +457,10 @@ whole_told T S room was self gave between new place node running turned value do
     let gave_is : gave ≡ record was { doing = gave_of was node turned.rec turned.outs } =
     given_so.1 ∙ ap (λ (o : List Msg). record was { doing = gave_of was node turned.rec o }) is_outs in
     let all : between ≡ record was { doing = left } =
-    so.1.rest ∙ ap (λ (d : Doing). record gave { doing = d }) (sym (forgot_to room node.id turned.rec gave.doing between.doing so.0))
+    so.1.rest ∙ ap (λ (d : Doing). record gave { doing = d }) (sym (forgot_to room waits node.id turned.rec gave.doing between.doing so.0))
     ∙ ap (λ (x : Working). record x { doing = forgot room node.id turned.rec x.doing }) gave_is in
     subst (λ (x : Working). (ended_whole room x.doing node running turned ≡ Ok new.doing) × WentOn x new) is
-    (whole_done room was new node running turned told files up (is_told ∙ ap (λ (i : NodeId). map (entry_of i) turned.marks) (its node there)) is_files
+    (whole_done room waits was new node running turned told files up (is_told ∙ ap (λ (i : NodeId). map (entry_of i) turned.marks) (its node there)) is_files
     (ap (cause_against room was.doing.world node turned.rec) (sym is_outs) ∙ given_so.0)
     (is_new
     ∙ ap (λ (xs : List Entry). record between { doing = told_of between.doing xs fs own }) is_es

@@ -17,11 +17,11 @@ use Rattle.osd_files.proofs.asks.ask_served.Goals as goal
 pub returns-then-not-is_read-clause-row : goal.returns-then-not-is_read-clause-row
 returns-then-not-is_read-clause-row g c =
     let ask = c.args.ask in
-    let Q : Turned → Type 0 = λ turned. IsRowBy (λ site s. ask_served site s ask) c.args.now (body_by (g.B.Bodies.records c.args.bodies.now)) (shown c.args.file.now) (shown c.write_served.new.file) turned in
+    let Q : Turned → Type 0 = λ turned. IsRowBy (λ site s. ask_served site s ask) c.args.now (body_by (g.B.Bodies.records c.args.bodies.now)) (shown c.args.file.now) (shown c.serve_write.new.file) turned in
     let P : Turned → Type 0 = λ turned. is_read ask.op ≡ false → Q turned in
     let no : is_read ask.op ≡ false = sym c.is_read.ensures ∙ c.if-not-is_read.true in
     let all : (turned : Turned) → P turned → Q turned = λ turned row. row no in
-    if_ok P Q c.write_served.result all c.write_served.ensures.row
+    if_ok P Q c.serve_write.result all c.serve_write.ensures.row
 
 pub returns-clause-row : goal.returns-clause-row
 returns-clause-row g c =

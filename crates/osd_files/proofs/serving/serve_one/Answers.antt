@@ -50,7 +50,7 @@ returns-clause-served g c =
     let records = g.B.Bodies.records c.args.bodies.now in
     let unread : is_read ask.op ≡ false = sym c.is_read.ensures ∙ c.if-is_read.false in
     let none : is_some f.asks.issued ≡ false = sym c.has_issued.ensures ∙ c.if-has_issued.false in
-    let Q : Turned → Type 0 = λ turned. ServesOne ask records old (shown c.waiting_write.new.file) turned in
+    let Q : Turned → Type 0 = λ turned. ServesOne ask records old (shown c.serve_waiting_write.new.file) turned in
     let P : Turned → Type 0 = λ turned. is_read ask.op ≡ false → is_some f.asks.issued ≡ false → Q turned in
     let all : (turned : Turned) → P turned → Q turned = λ turned of. of unread none in
-    if_ok P Q c.waiting_write.result all c.waiting_write.ensures.served
+    if_ok P Q c.serve_waiting_write.result all c.serve_waiting_write.ensures.served

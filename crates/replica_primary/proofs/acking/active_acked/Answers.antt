@@ -19,7 +19,7 @@ returns-in_default c =
 
 pub returns-then-is_below : goal.returns-then-is_below
 returns-then-is_below c =
-    if_so _ _ c.sent_to_newly.result c.sent_to_newly.ensures
+    if_so _ _ c.send_to_new_peer.result c.send_to_new_peer.ensures
     (λ turned of learnt records held.
     let t = c.args.tenure.now in
     let g = ground c.args.place.now records c.args.own.now held in

@@ -45,7 +45,7 @@ returns-in_err-put g c = λ around node running at up.
     let p = err_from_is_err_and c.from_residual-in_err-put.result c.from_residual-in_err-put.ensures.1 in
     rw (p.1, p.2) (
       tt,
-      forgot_untold (Unit {0}) (Unit {0}) g.H.Hull.room (working around c.args.self.now) (working around c.give.new.self) (working around c.forget.new.self) _ c.args.place node c.args.rec.now c.as_slice-2.result.now tt tt at
+      forgot_untold (Unit {0}) (Unit {0}) g.H.Hull.room g.H.Hull.waits (working around c.args.self.now) (working around c.give.new.self) (working around c.forget.new.self) _ c.args.place node c.args.rec.now c.as_slice-2.result.now tt tt at
           (c.in_ok-give.ensures around node at) (c.in_ok-forget.ensures around) (record { entries = refl; lines = refl; begun = refl; ended = refl }),
     )
 
@@ -54,13 +54,13 @@ returns-in_err-tell_all g c = λ around node running at up.
     let p = err_from_is_err_and c.from_residual-in_err-tell_all.result c.from_residual-in_err-tell_all.ensures.1 in
     rw (p.1, p.2) (
       tt,
-      forgot_untold (Unit {0}) (Unit {0}) g.H.Hull.room (working around c.args.self.now) (working around c.give.new.self) (working around c.forget.new.self) _ c.args.place node c.args.rec.now c.as_slice-2.result.now tt tt at
+      forgot_untold (Unit {0}) (Unit {0}) g.H.Hull.room g.H.Hull.waits (working around c.args.self.now) (working around c.give.new.self) (working around c.forget.new.self) _ c.args.place node c.args.rec.now c.as_slice-2.result.now tt tt at
           (c.in_ok-give.ensures around node at) (c.in_ok-forget.ensures around) (record { entries = c.in_err-tell_all.ensures.err; lines = refl; begun = refl; ended = refl }),
     )
 
 pub returns : goal.returns
 returns g c = λ around node running at up.
-    whole_told (Unit {0}) (Unit {0}) g.H.Hull.room (working around c.args.self.now) (working around c.args.self.now) (working around c.give.new.self) (working around c.forget.new.self) _ c.args.place node running (given_by c.args.rec.now c.args.outs.now c.args.marks.now) tt tt c.as_slice-2.result.now c.id-node.result
+    whole_told (Unit {0}) (Unit {0}) g.H.Hull.room g.H.Hull.waits (working around c.args.self.now) (working around c.args.self.now) (working around c.give.new.self) (working around c.forget.new.self) _ c.args.place node running (given_by c.args.rec.now c.args.outs.now c.args.marks.now) tt tt c.as_slice-2.result.now c.id-node.result
     c.in_ok-told.told.items c.tell_all.new.entries.items c.in_ok-files.files.items c.tell_all.new.made.items c.put.new.self refl at up (c.in_ok-give.ensures around) (c.in_ok-forget.ensures around) c.as_slice-2.ensures c.id-node.ensures.id (c.in_ok-told.ensures ∙ ap (map (entry_of c.id-node.result)) c.replace.ensures.value)
     (c.in_ok-files.ensures ∙ ap files_marked c.as_slice.ensures)
     c.in_ok-tell_all.ensures.entries c.in_ok-tell_all.ensures.made (c.in_ok-put.ensures ∙ ap (λ (outs : List Msg). c.forget.new.self.own ++ to_itself c.id-node.result outs) c.replace-2.ensures.value) refl

@@ -4,7 +4,7 @@ use Rattle.xt_messages.specs.declared.record.Record.{Record}
 use Rattle.xt_protocol.specs.Primaries.{Led}
 use Rattle.xt_protocol.specs.PrimaryRows.{after_keeping, goes_on}
 use Rattle.replica_primary.specs.Moves.{ground_beyond, kept_of}
-use Rattle.replica_primary.proofs.gathering.installs_keeping.Goals as goal
+use Rattle.replica_primary.proofs.gathering.install_and_keep.Goals as goal
 
 pub returns-clause-value : goal.returns-clause-value
 returns-clause-value g c =

@@ -16,7 +16,7 @@ use Rattle.osd_files.specs.Asking.{asks_once_done}
 use Rattle.osd_files.specs.Serves.{ground_at, served_in}
 use Rattle.osd_files.specs.Views.{FileView, shown, with_lead}
 use Rattle.osd_files.proofs.Waiting.{write_led, write_stays}
-use Rattle.osd_files.proofs.serving.waiting_write.Goals as goal
+use Rattle.osd_files.proofs.serving.serve_waiting_write.Goals as goal
 
 pub returns-in-Some-led-clause-served : goal.returns-in-Some-led-clause-served
 returns-in-Some-led-clause-served g c =

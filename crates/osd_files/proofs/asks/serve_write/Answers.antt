@@ -13,7 +13,7 @@ use Rattle.osd_files.specs.Leads.{LeadView}
 use Rattle.osd_files.specs.Asking.{asks_once_done}
 use Rattle.osd_files.specs.Views.{shown, with_lead, site_at}
 use Rattle.osd_files.proofs.Served.{write_row, write_waits}
-use Rattle.osd_files.proofs.asks.write_served.Goals as goal
+use Rattle.osd_files.proofs.asks.serve_write.Goals as goal
 
 pub returns-in-Some-led-clause-row : goal.returns-in-Some-led-clause-row
 returns-in-Some-led-clause-row g c =

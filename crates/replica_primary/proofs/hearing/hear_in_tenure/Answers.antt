@@ -6,7 +6,7 @@ use Rattle.replica_primary.specs.Shown.{shown_tenure}
 use Rattle.replica_primary.specs.Written.{ground}
 use Rattle.replica_primary.proofs.Given.{if_so}
 use Rattle.replica_primary.proofs.InOrder.{shown_led}
-use Rattle.replica_primary.proofs.hearing.goes_on_hearing.Goals as goal
+use Rattle.replica_primary.proofs.hearing.hear_in_tenure.Goals as goal
 
 pub returns-in-Status : goal.returns-in-Status
 returns-in-Status c =
