@@ -7,6 +7,6 @@ use Rattle.object_store.specs.Texts.{texts_of, AreRecords, IsFirstBad}
 abbrev pub AreOfOneList : Type 0
 AreOfOneList = (kept found : List Record) → AreRecords kept → AreRecords found → texts_of found ≡ texts_of kept → found ≡ kept
 
--- No payload of records in their places is told as a bad one.
+-- No payload of records in their places is reported as a bad one.
 abbrev pub NoneIsBad : Type 0
 NoneIsBad = (kept : List Record) (index : ℕ) → AreRecords kept → IsFirstBad (texts_of kept) index → ⊥

@@ -9,7 +9,7 @@ use Rattle.object_store.specs.Access.{journal_of, records_of}
 use Rattle.object_store.specs.Texts.{texts_of, AreRecords, IsFirstBad}
 
 module _ {D : Type 0} {g : Ghosts D} where
-  -- The store has the journal and the records that the payloads are, each within its limits and in its place; or the first payload is told that is no record in its
+  -- The store has the journal and the records that the payloads are, each within its limits and in its place; or the first payload is reported that is no record in its
   -- place. The journal comes back as it was where it isn't loaded.
   abbrev pub IsLoadOf : Journal D g → List (List ℕ) → Result (Store D g) (StoreErr D g) → Type 0
   IsLoadOf journal payloads (Ok store) = (journal_of store ≡ journal) × (texts_of (records_of store) ≡ payloads) × AreRecords (records_of store)

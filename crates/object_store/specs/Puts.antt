@@ -39,7 +39,7 @@ pub record IsBroken {D : Type 0} {g : Ghosts D} (old : Store D g) (rec : Record)
   pub fault : count ≡ g.fault_count disk
   pub room : needed_for old rec ≤ limit_of (journal_of old)
 
--- The journal would need more than its limit, which is told. It is as it was, and so are the records.
+-- The journal would need more than its limit, which is reported. It is as it was, and so are the records.
 pub record IsFull {D : Type 0} {g : Ghosts D} (old : Store D g) (rec : Record) (new : Store D g) (need limit : ℕ) : Type 0 where
   pub over : limit_of (journal_of old) < needed_for old rec
   pub journal : journal_of new ≡ journal_of old

@@ -49,7 +49,7 @@ pub record IsSwapBroken {D : Type 0} {g : Ghosts D} (old : Store D g) (made : Li
   pub fault : count ≡ g.fault_count disk
   pub room : swap_need old made ≡ None
 
--- There is no room for the new area, and what it needs is told. The store is as it was, and so is its disk.
+-- There is no room for the new area, and what it needs is reported. The store is as it was, and so is its disk.
 pub record IsSwapFull {D : Type 0} {g : Ghosts D} (old : Store D g) (made : List Record) (new : Store D g) (need told_limit : ℕ) : Type 0 where
   pub needed : swap_need old made ≡ Some need
   pub records : records_of new ≡ records_of old

@@ -1,7 +1,7 @@
 //! A store of a node's records: each of them in a journal on a disk, and all of them in memory.
 //!
 //! A store is loaded from a journal whose payloads are records, each in its place after those before it; else the first
-//! payload that isn't is told. A record that is put is on the disk before it is in the store, and a crash at any moment
+//! payload that isn't is reported. A record that is put is on the disk before it is in the store, and a crash at any moment
 //! leaves the records from before, with the new one or without it. All records may be swapped for others at once, and a crash then leaves
 //! the old ones or the new ones. A body is found by its file, object and version.
 #![tactic(auto)]

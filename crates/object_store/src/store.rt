@@ -58,7 +58,7 @@ impl<D: Disk> Store<D> {
 
     /// Puts a record after the others, on the disk and then in memory. At `Ok` each crash leaves it from then on.
     ///
-    /// Want of memory comes before the first device call. A store whose disk has failed is gone, and must be loaded
+    /// Memory can only run out before the first device call. A store whose disk has failed is gone, and must be loaded
     /// again.
     pub fn put(self, alloc: Global, rec: &Record) -> Result<Store<D>, AppendErr<D>>
         requires fits { FitsRecord rec.now }

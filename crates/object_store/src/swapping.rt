@@ -43,7 +43,7 @@ struct Made {
     log: RecordLog,
 }
 
-/// All that may fail for want of memory before the journal is asked.
+/// All that needs memory, before the journal is asked.
 fn prepared(alloc: Global, records: Vec<Record>) -> Result<Made, OutOfMemory>
     requires { All FitsRecord records.items }
     ensures { IfOk result (λ made. (made.payloads.items ≡ texts_of records.items)
@@ -66,8 +66,8 @@ impl<D: Disk> Store<D> {
     /// Puts these records in place of all others, on the disk and then in memory. At `Ok` each crash leaves them from then on, and at any
     /// moment before a crash leaves the old ones or these.
     ///
-    /// They are written as a whole new area of the journal. `Full` comes exactly where that has no room within the limit. Want of memory
-    /// comes before the first device call. A store whose disk has failed is gone, and must be loaded again.
+    /// They are written as a whole new area of the journal. `Full` comes exactly where that has no room within the limit. Memory can
+    /// only run out before the first device call. A store whose disk has failed is gone, and must be loaded again.
     pub fn swap(self, alloc: Global, records: Vec<Record>) -> Result<Store<D>, AppendErr<D>>
         requires { AreRecords records.items }
         ensures { Swaps self records.items result }

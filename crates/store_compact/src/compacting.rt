@@ -14,7 +14,7 @@ use xt_messages::Keep;
 /// which are gone. A crash at any moment leaves the old records or the rewritten ones, and after `Ok` the rewritten ones.
 ///
 /// `keep` has to name enough for the rewritten records to be in their places: what the heads of all files name, at least. `Full` comes
-/// exactly where the new area has no room within the limit of the store's journal. Want of memory comes before the first device call. In
+/// exactly where the new area has no room within the limit of the store's journal. Memory can only run out before the first device call. In
 /// both cases the store is as it was. Whether there is room is found by counting, before a body is copied.
 pub fn compact<D: Disk>(
     alloc: Global,

@@ -149,7 +149,7 @@ fn put_rows(
 /// The records that say what these say, but for the held bodies that aren't to be kept: the last start, the requests in their order,
 /// and then file by file its list, its kept bodies and its head.
 ///
-/// It goes through the records once, finds each body by its place, and copies it once. The only error is want of memory.
+/// It goes through the records once, finds each body by its place, and copies it once. It fails only if memory runs out.
 #[tactic(auto, unfolding(xt_protocol::specs::Forgetting::rewritten))]
 pub fn rewritten(alloc: Global, log: &RecordLog, keep: &Keep) -> Result<Vec<Record>, OutOfMemory>
     ensures { IfOk result (λ made. made.items ≡ rewritten keep.now (records_in log.now)) }
