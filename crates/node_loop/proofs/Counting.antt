@@ -8,7 +8,7 @@ use Rattle.node_loop.specs.Events.{HasDiskCause, TellsDiskCount}
 pub cause_since : (first before after : ℕ) (ended : Status) → before ≡ first → TellsDiskCount before after ended → TellsDiskCount first after ended
 cause_since first before after ended same cause = subst (λ n. TellsDiskCount n after ended) same cause
 
--- what is told of a put is told of the event
+-- what is reported of a put is reported of the event
 pub tells_of_put : (before after : ℕ) (ended : Status) → HasDiskCause before after ended → TellsDiskCount before after ended
 tells_of_put before after (status.DiskFault count) cause = (inl cause.0, cause.1)
 tells_of_put before after _ cause = cause

@@ -20,7 +20,7 @@ use Rattle.node_runs.specs.Runs.{JournalAt, grown, needed_in}
 use Rattle.node_runs.specs.Serving.{IsOver}
 use Rattle.node_runs.specs.Posting.{posted, none_posted, HasPosted, HasSentFront}
 
--- its record may be put after these, and its messages may be sent
+-- its record can be put after these, and its messages can be sent
 pub record Fits (records : List Record) (turned : Turned) : Type 0 where
   pub record_next : IfSome turned.rec (λ rec. FitsRecord rec × IsInPlace (fold_of records) rec)
   pub messages : All FitsMessage turned.outs
@@ -34,14 +34,14 @@ pub record HasStepped {S : Type 0} (step : Step S) (node : NodeId) (boot : Boot)
   pub outs_are : outs ≡ step.turned.outs
   pub sent : HasPosted (posted node boot book (none_posted before) step.turned.outs) count handed
 
--- A fault of the disk is told only where its count rose in the call, and with that count; whatever else ends a node, no call to the disk
+-- A fault of the disk is reported only where its count rose in the call, and with that count; whatever else ends a node, no call to the disk
 -- had failed.
 abbrev pub HasDiskCause : ℕ → ℕ → Status → Type 0
 HasDiskCause before after (status.DiskFault count) = Rose before after × (count ≡ after)
 HasDiskCause before after _ = after ≡ before
 
--- So it is where a node serves, but that a fault of the disk is also told, with the count as it was, where a step needs a body that no
--- record put. No run of the definitions comes to that, since what a node needs is held; it isn't shown of the code.
+-- The same where a node serves, but a fault of the disk is also reported, with the count as it was, where a step needs a body that no
+-- record put. That happens in no run of the definitions, since what a node needs is held; it isn't proved of the code.
 abbrev pub TellsDiskCount : ℕ → ℕ → Status → Type 0
 TellsDiskCount before after (status.DiskFault count) = (Rose before after ⊎ (after ≡ before)) × (count ≡ after)
 TellsDiskCount before after _ = after ≡ before
@@ -53,18 +53,18 @@ EndsPut (status.JournalFull need limit) = Unit {0}
 EndsPut status.OutOfMemory = Unit {0}
 EndsPut _ = ⊥
 
--- A record that needs so long a journal has no room in one that may be only so long, where that is why it isn't put.
+-- A record for which the journal needs so many bytes has no room within this limit, where the status says that it is full.
 abbrev pub IsFullFor : ℕ → ℕ → Status → Type 0
 IsFullFor limit needed (status.JournalFull need most) = IsOver limit needed need most
 IsFullFor limit needed _ = Unit {0}
 
--- What a put leaves that ends the node, where `left` says it of a record that a crash may leave: none where the journal is full.
+-- What a put leaves that ends the node: `left` says of a record that a crash leaves it or not; none where the journal is full.
 abbrev pub LeavesPut : (Option Record → Type 0) → Record → Status → Type 0
 LeavesPut left rec (status.JournalFull need limit) = left None
 LeavesPut left rec _ = left (Some rec)
 
--- An event that ends the node: nothing of it is sent, but where memory runs out after its record, a front of its messages. And what
--- it leaves on the disk, where `left` says so of the record that a crash may leave.
+-- An event that ends the node: nothing of it is sent, but where memory runs out after its record, a front of its messages. And what it
+-- leaves on the disk: `left` says of a record that a crash leaves it or not.
 abbrev pub EndsEvent : {S : Type 0} → Step S → NodeId → Boot → Book → ℕ → JournalAt → (List Datagram → Type 0) → (Option Record → Type 0) → Status
     → Type 0
 EndsEvent step node boot book before journal handed left (status.DiskFault count) = handed [] × (left step.turned.rec ⊎ left None)

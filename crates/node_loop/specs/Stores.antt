@@ -1,4 +1,4 @@
--- where the records of a store stand, and how a rewriting of them went
+-- where the records of a store are on the disk, and how a rewriting of them went
 use Rattle.std.specs.Prelude.{ℕ, ◌≡◌, None, Some, List}
 use Rattle.disk_model.specs.declared.disk.Disk.{Ghosts}
 use Rattle.xt_messages.specs.declared.record.KeepBody.{KeepBody}

@@ -53,7 +53,7 @@ CannotBegin left before after unread read (status.ClockFault count) =
     (turn : Turn) × Begins before left turn × Takes before after (datagrams_in (turn ∷ [])) × (read ≡ unread)
 CannotBegin left before after unread read _ = ⊥
 
--- one pass: a turn, a message to itself, or a look at the records after a Wake, in which they may be rewritten
+-- one pass: a turn, a message to itself, or a look at the records after a Wake, in which they can be rewritten
 pub record HasPassed {S : Type 0} (role : Role S) (boot : Boot) (period : ℕ) (old new : Served S) (spent now_spent : ℕ)
     (before after sent_before sent_after : Option (List Datagram)) (losses_before losses_after : ℕ) (unread read : Option (List ℕ)) : Type 0 where
   pub turns : List Turn
@@ -64,7 +64,7 @@ pub record HasPassed {S : Type 0} (role : Role S) (boot : Boot) (period : ℕ) (
   pub sends : Sends sent_before sent_after losses_before losses_after posts
   pub spends : now_spent ≡ spent + length turns
 
--- a pass that ends the node, and what it leaves on the disk, where `left` says so of what a crash may leave done to the records
+-- a pass that ends the node, and what it leaves on the disk; `left deed` says that a crash leaves the records with that deed or without it
 pub record HasEnded {S : Type 0} (role : Role S) (boot : Boot) (period : ℕ) (limit spent : ℕ) (old : Served S)
     (before after sent_before sent_after : Option (List Datagram)) (losses_before losses_after : ℕ) (unread read : Option (List ℕ))
     (left : Option Deed → Type 0) (said : Status) : Type 0 where
@@ -75,14 +75,14 @@ pub record HasEnded {S : Type 0} (role : Role S) (boot : Boot) (period : ℕ) (l
   pub ending : EndsServing role boot period limit spent before old undone said
   pub leaves : left undone.met
 
--- A rewriting of the records with these bodies that ends the node: the disk failed, or memory ran out. A crash may leave them
--- rewritten, where `left` says of something that it may be done to them.
+-- A rewriting of the records with these bodies that ends the node: the disk failed, or memory ran out. A crash leaves them rewritten or not;
+-- `left deed` says so of a deed.
 abbrev pub EndsRewriting : List KeepBody → (Option Deed → Type 0) → Status → Type 0
 EndsRewriting keep left (status.DiskFault count) = left (Some (rewrites keep))
 EndsRewriting keep left status.OutOfMemory = left (Some (rewrites keep))
 EndsRewriting keep left _ = ⊥
 
--- so where they were to be rewritten with the bodies that the node needs
+-- the same where they were to be rewritten with the bodies that the node needs
 abbrev pub RewritingEnds : {S : Type 0} → Role S → Boot → ℕ → Served S → (Option Deed → Type 0) → Type 0
 RewritingEnds role boot period s left = (keep : List KeepBody) × Rewrites role boot period s keep × left (Some (rewrites keep))
 

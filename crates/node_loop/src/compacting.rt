@@ -16,13 +16,13 @@ use std::alloc::Global;
 use store_compact::compact;
 use xt_messages::{Keep, Status};
 
-/// The bytes from which on records are rewritten that never were.
+/// How many bytes records take before they are rewritten for the first time.
 const LEAST_AREA: u64 = 1_048_576;
 
-/// How a store stands after its records were to be rewritten.
+/// A store after its records were to be rewritten.
 #[derive(Drop)]
 pub enum Rewritten<D: Disk> {
-    /// They are rewritten.
+    /// Its records are rewritten.
     Done(Store<D>),
     /// The journal has no room for them. The store is as it was.
     NoRoom(Store<D>),

@@ -18,10 +18,10 @@ use xt_protocol::Turned;
 pub trait Node {
     ghost use Rattle.node_runs.specs.Runs.{Role};
 
-    /// What its state is.
+    /// The type of its state.
     ghost State: { Type 0 };
 
-    /// What it is, which no step changes.
+    /// Its role, which no step changes.
     ghost role: { Self → Role State };
 
     /// Its state.

@@ -40,7 +40,7 @@ fn receive<L: Link>(link: &mut L, left: u64, buf: &mut [u8]) -> Result<Opening, 
     }
 }
 
-/// Reads the clock.
+/// Reads the clock, with what contracts know of it in the form that a turn needs.
 fn read<C: Clock>(clock: &mut C) -> Result<u64, Failed>
     ensures limit { IfOk result (λ reading. reading < 2 ^ 62) }
     ensures reads { IfOk result (λ reading. Reads (C.readings clock.old) (C.readings clock.new)
@@ -52,8 +52,8 @@ fn read<C: Clock>(clock: &mut C) -> Result<u64, Failed>
     clock.now()
 }
 
-/// Begins a turn: a receive, if some time is left to the next Wake, and after it a reading of the clock. A receive may wait for longer
-/// than clocks may differ, so a node that read the clock first could act on a lease that is over.
+/// Begins a turn: a receive, if some time is left to the next Wake, and after it a reading of the clock. A receive can wait for longer
+/// than the drift, so a node that read the clock first could act on a lease that is over.
 #[tactic(auto, using(crate::proofs::Beginning::has_begun, crate::proofs::Beginning::is_within, crate::proofs::Beginning::unread, crate::proofs::Beginning::given))]
 pub fn begin<L: Link, C: Clock>(
     link: &mut L,

@@ -2,11 +2,11 @@ ghost use Rattle.std.specs.Prelude.{◌≡◌, ◌≤◌, ◌<◌, ◌^◌, ◌+
 ghost use Rattle.std.specs.List.{All};
 ghost use Rattle.xt_messages.specs.Limits.{FitsMessage};
 ghost use Rattle.object_store.specs.Access.{records_of, disk_of};
-ghost use Rattle.node_loop.specs.Stores.{journal_at};
 ghost use Rattle.node_runs.specs.Runs.{kept_through};
 ghost use Rattle.node_runs.specs.Serving.{HasServeCause, IsServed};
 ghost use Rattle.node_runs.specs.Keeping.{KeepsOn, KeepsWith, KeepsServed};
-ghost use Rattle.node_loop.specs.Turns.{standing, HasPassed, HasEnded};
+ghost use Rattle.node_loop.specs.Turns.{HasPassed, HasEnded};
+ghost use Rattle.node_loop.specs.Settling.{served_of};
 ghost use Rattle.node_loop.specs.Events.{TellsDiskCount};
 
 use crate::event::Ended;
@@ -47,22 +47,12 @@ impl<N: Node> Site<N> {
         ensures faults { IfOk result (λ kept. (L.fault_count link.new ≡ L.fault_count link.old)
             × (C.fault_count clock.new ≡ C.fault_count clock.old)) }
         ensures passed { IfOk result (λ kept. HasPassed (N.role self.old.node) self.old.sender.boot
-            bounds.period
-            (standing (N.state self.old.node) (records_of store) (journal_at store)
-            self.old.own self.old.ears self.old.clock self.old.due self.old.sender.count
-            self.old.woken)
-            (standing (N.state self.new.node) (records_of kept) (journal_at kept)
-            self.new.own self.new.ears self.new.clock self.new.due self.new.sender.count
-            self.new.woken)
-            spent.old spent.new
+            bounds.period (served_of N.state self.old store) (served_of N.state self.new kept) spent.old spent.new
             (L.given link.old) (L.given link.new) (L.sent link.old) (L.sent link.new)
             (L.loss_count link.old) (L.loss_count link.new)
             (C.readings clock.old) (C.readings clock.new)) }
         ensures ended { IfErr result (λ ended. HasEnded (N.role self.old.node) self.old.sender.boot
-            bounds.period bounds.turns spent.old
-            (standing (N.state self.old.node) (records_of store) (journal_at store)
-            self.old.own self.old.ears self.old.clock self.old.due self.old.sender.count
-            self.old.woken)
+            bounds.period bounds.turns spent.old (served_of N.state self.old store)
             (L.given link.old) (L.given link.new) (L.sent link.old) (L.sent link.new)
             (L.loss_count link.old) (L.loss_count link.new)
             (C.readings clock.old) (C.readings clock.new)
@@ -104,8 +94,8 @@ impl<N: Node> Site<N> {
 /// that they stay.
 ///
 /// A crash at any moment leaves the records of the store, or those after some event or some rewriting, and none that are older than what was
-/// kept when it came. The disk that is handed back has the last of them; the record of an event in which the node ended may be there or not,
-/// and where a rewriting failed, so may the rewritten ones.
+/// kept when it came. The disk that is returned has the last of them. If the node ended in an event, that event's record can be there or
+/// not, and if a rewriting failed, it can have the rewritten ones instead.
 pub fn serve<N: Node, L: Link, C: Clock, D: Disk>(
     alloc: Global,
     site: &mut Site<N>,
@@ -121,19 +111,14 @@ pub fn serve<N: Node, L: Link, C: Clock, D: Disk>(
     requires own { All FitsMessage site.old.own }
     requires runs { N.runs_on site.old.node (records_of store) }
     ensures served { IsServed (N.role site.old.node) site.old.sender.boot bounds.period
-        (standing (N.state site.old.node) (records_of store) (journal_at store)
-        site.old.own site.old.ears site.old.clock site.old.due site.old.sender.count
-        site.old.woken)
-        bounds.turns
+        (served_of N.state site.old store) bounds.turns
         (L.given link.old) (L.given link.new) (L.sent link.old) (L.sent link.new)
         (L.loss_count link.old) (L.loss_count link.new)
         (C.readings clock.old) (C.readings clock.new) result.0 }
     ensures cause { HasServeCause (L.fault_count link.old) (L.fault_count link.new)
         (C.fault_count clock.old) (C.fault_count clock.new) result.0 }
     ensures disk_cause { TellsDiskCount (D.fault_count (disk_of store)) (D.fault_count result.1) result.0 }
-    ensures keeps { let start =
-        standing (N.state site.old.node) (records_of store) (journal_at store)
-        site.old.own site.old.ears site.old.clock site.old.due site.old.sender.count site.old.woken in
+    ensures keeps { let start = served_of N.state site.old store in
         (s : IsServed (N.role site.old.node) site.old.sender.boot bounds.period start bounds.turns
         (L.given link.old) (L.given link.new) (L.sent link.old) (L.sent link.new)
         (L.loss_count link.old) (L.loss_count link.new)

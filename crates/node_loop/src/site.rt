@@ -2,16 +2,16 @@ ghost use Rattle.std.specs.Prelude.{◌≡◌, ◌≤◌, ◌<◌, ◌^◌, ℕ,
 ghost use Rattle.std.specs.Option.{IfSome};
 ghost use Rattle.std.specs.List.{All};
 ghost use Rattle.xt_messages.specs.Limits.{FitsEvent, FitsMessage};
-ghost use Rattle.node_links.specs.declared.link.Datagram.{Datagram};
 ghost use Rattle.xt_protocol.specs.Forgetting.{rewritten};
 ghost use Rattle.object_store.specs.Access.{records_of, disk_of};
 ghost use Rattle.object_store.specs.Texts.{AreRecords};
 ghost use Rattle.node_loop.specs.Stores.{journal_at};
 ghost use Rattle.node_runs.specs.Links.{Sends};
-ghost use Rattle.node_runs.specs.Keeping.{KeepsOn, KeepsPut, KeepsWith};
-ghost use Rattle.node_runs.specs.Runs.{handles, mails, meets, event_in, ends_event, next_due, is_due, area_at, Passes};
-ghost use Rattle.node_loop.specs.Events.{HasDiskCause, TellsDiskCount, EndsEvent};
-ghost use Rattle.node_loop.specs.Turns.{standing, turn_of, IsWithin, HasActed, EndsSettling};
+ghost use Rattle.node_runs.specs.Keeping.{KeepsOn, KeepsPut};
+ghost use Rattle.node_runs.specs.Runs.{handles, mails, meets, event_in, ends_event, next_due, is_due, area_at};
+ghost use Rattle.node_loop.specs.Events.{TellsDiskCount, EndsEvent};
+ghost use Rattle.node_loop.specs.Turns.{standing, turn_of, IsWithin, HasActed};
+ghost use Rattle.node_loop.specs.Settling.{HasSettled, served_of};
 
 use crate::compacting::{Rewritten, is_due, rewrite};
 use crate::event::{Ended, Handled, handle};
@@ -37,11 +37,11 @@ pub struct Site<N: Node> {
     pub clock: u64,
     /// When the next Wake is due.
     pub due: u64,
-    /// A Wake was handled, and it wasn't looked after it whether the records are to be rewritten.
+    /// A Wake was handled, and the node hasn't checked since whether its records are to be rewritten.
     pub woken: bool,
 }
 
-/// When the next Wake is due after one that was due then.
+/// When the next Wake is due after this one, in milliseconds of the node's clock.
 fn later(period: u64, now: u64, due: u64) -> u64
     requires { (period < 2 ^ 62) × (now < 2 ^ 62) }
     ensures { result ≡ next_due period now due }
@@ -51,7 +51,7 @@ fn later(period: u64, now: u64, due: u64) -> u64
 }
 
 impl<N: Node> Site<N> {
-    /// What happens in a turn that has begun so.
+    /// The event of a turn that has begun so: a Wake, or a message that is whole with the datagram received; none while it isn't whole.
     pub fn meet(
         &mut self,
         period: u64,
@@ -104,7 +104,7 @@ impl<N: Node> Site<N> {
         }
     }
 
-    /// An event: the step, its record, its messages; those to the node itself wait after the others.
+    /// Handles an event: the step, its record, its messages. Those to the node itself are queued.
     pub fn act<L: Link, D: Disk>(
         &mut self,
         alloc: Global,
@@ -127,10 +127,7 @@ impl<N: Node> Site<N> {
         ensures runs { IfOk result (λ kept. N.runs_on self.new.node (records_of kept)) }
         ensures own { IfOk result (λ kept. All FitsMessage self.new.own) }
         ensures acted { IfOk result (λ kept. HasActed (N.role self.old.node) self.old.sender.boot
-            (standing (N.state self.old.node) (records_of store) (journal_at store)
-            self.old.own self.old.ears self.old.clock self.old.due self.old.sender.count self.old.woken) happens.now
-            (standing (N.state self.new.node) (records_of kept) (journal_at kept)
-            self.new.own self.new.ears self.new.clock self.new.due self.new.sender.count self.new.woken)
+            (served_of N.state self.old store) happens.now (served_of N.state self.new kept)
             (Sends (L.sent link.old) (L.sent link.new) (L.loss_count link.old) (L.loss_count link.new))) }
         ensures ends { IfErr result (λ ended. EndsEvent
             ((N.role self.old.node).step (records_of store) (N.state self.old.node) self.old.clock happens.now)
@@ -170,28 +167,7 @@ impl<N: Node> Site<N> {
     pub fn settle<D: Disk>(&mut self, alloc: Global, store: Store<D>) -> Result<Store<D>, Ended<D>>
         requires woken { (self.old.own ≡ []) × (self.old.woken ≡ true) }
         requires runs { N.runs_on self.old.node (records_of store) }
-        ensures same { (self.new.sender ≡ self.old.sender) × (self.new.ears ≡ self.old.ears)
-            × (self.new.own ≡ self.old.own) × (self.new.clock ≡ self.old.clock)
-            × (self.new.due ≡ self.old.due) }
-        ensures role { IfOk result (λ kept. N.role self.new.node ≡ N.role self.old.node) }
-        ensures runs { IfOk result (λ kept. N.runs_on self.new.node (records_of kept)) }
-        ensures passed { (period : ℕ) (to_come : Option (List Datagram)) → IfOk result (λ kept.
-            Passes (N.role self.old.node) self.old.sender.boot period to_come
-            (standing (N.state self.old.node) (records_of store) (journal_at store)
-            self.old.own self.old.ears self.old.clock self.old.due self.old.sender.count self.old.woken) [] []
-            (standing (N.state self.new.node) (records_of kept) (journal_at kept)
-            self.new.own self.new.ears self.new.clock self.new.due self.new.sender.count self.new.woken)) }
-        ensures ends { (period : ℕ) → IfErr result (λ ended. EndsSettling (N.role self.old.node) self.old.sender.boot period
-            (standing (N.state self.old.node) (records_of store) (journal_at store)
-            self.old.own self.old.ears self.old.clock self.old.due self.old.sender.count self.old.woken)
-            (KeepsWith D.is_told D.moment D.left_since (disk_of store) ended.disk (records_of store))
-            ended.status) }
-        ensures keeps { IfOk result (λ kept. KeepsOn D.is_told D.moment D.left_since
-            (disk_of store) (disk_of kept) (records_of store ∷ records_of kept ∷ [])) }
-        ensures disk { IfOk result (λ kept. D.fault_count (disk_of kept) ≡
-            D.fault_count (disk_of store)) }
-        ensures disk_cause { IfErr result (λ ended. HasDiskCause (D.fault_count (disk_of store))
-            (D.fault_count ended.disk) ended.status) }
+        ensures { HasSettled N.role N.state N.runs_on self.old self.new store result }
     {
         if !is_due(&store.area()) {
             self.woken = false;
@@ -210,7 +186,7 @@ impl<N: Node> Site<N> {
         }
     }
 
-    /// So where they have grown so much, and these are the bodies that the node needs.
+    /// Rewrites the records with these bodies, which are all that the node needs. They stay where the journal has no room for that.
     fn settle_with<D: Disk>(
         &mut self,
         alloc: Global,
@@ -222,28 +198,7 @@ impl<N: Node> Site<N> {
         requires needs { (N.role self.old.node).keeps (N.state self.old.node) ≡ Some keep.now }
         requires may { AreRecords (rewritten keep.now (records_of store)) }
         requires runs { N.runs_on self.old.node (records_of store) }
-        ensures same { (self.new.sender ≡ self.old.sender) × (self.new.ears ≡ self.old.ears)
-            × (self.new.own ≡ self.old.own) × (self.new.clock ≡ self.old.clock)
-            × (self.new.due ≡ self.old.due) }
-        ensures role { IfOk result (λ kept. N.role self.new.node ≡ N.role self.old.node) }
-        ensures runs { IfOk result (λ kept. N.runs_on self.new.node (records_of kept)) }
-        ensures passed { (period : ℕ) (to_come : Option (List Datagram)) → IfOk result (λ kept.
-            Passes (N.role self.old.node) self.old.sender.boot period to_come
-            (standing (N.state self.old.node) (records_of store) (journal_at store)
-            self.old.own self.old.ears self.old.clock self.old.due self.old.sender.count self.old.woken) [] []
-            (standing (N.state self.new.node) (records_of kept) (journal_at kept)
-            self.new.own self.new.ears self.new.clock self.new.due self.new.sender.count self.new.woken)) }
-        ensures ends { (period : ℕ) → IfErr result (λ ended. EndsSettling (N.role self.old.node) self.old.sender.boot period
-            (standing (N.state self.old.node) (records_of store) (journal_at store)
-            self.old.own self.old.ears self.old.clock self.old.due self.old.sender.count self.old.woken)
-            (KeepsWith D.is_told D.moment D.left_since (disk_of store) ended.disk (records_of store))
-            ended.status) }
-        ensures keeps { IfOk result (λ kept. KeepsOn D.is_told D.moment D.left_since
-            (disk_of store) (disk_of kept) (records_of store ∷ records_of kept ∷ [])) }
-        ensures disk { IfOk result (λ kept. D.fault_count (disk_of kept) ≡
-            D.fault_count (disk_of store)) }
-        ensures disk_cause { IfErr result (λ ended. HasDiskCause (D.fault_count (disk_of store))
-            (D.fault_count ended.disk) ended.status) }
+        ensures { HasSettled N.role N.state N.runs_on self.old self.new store result }
     {
         match rewrite(alloc, store, keep) {
             Ok(Rewritten::Done(store)) => {

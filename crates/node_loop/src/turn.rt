@@ -2,10 +2,10 @@ ghost use Rattle.std.specs.Prelude.{◌≡◌, ◌≤◌, ◌<◌, ◌^◌, ◌+
 ghost use Rattle.std.specs.List.{All};
 ghost use Rattle.xt_messages.specs.Limits.{FitsMessage};
 ghost use Rattle.object_store.specs.Access.{records_of, disk_of};
-ghost use Rattle.node_loop.specs.Stores.{journal_at};
 ghost use Rattle.node_runs.specs.Serving.{HasServeCause};
 ghost use Rattle.node_runs.specs.Keeping.{KeepsOn, KeepsWith};
-ghost use Rattle.node_loop.specs.Turns.{standing, HasPassed, HasEnded};
+ghost use Rattle.node_loop.specs.Turns.{HasPassed, HasEnded};
+ghost use Rattle.node_loop.specs.Settling.{served_of};
 ghost use Rattle.node_loop.specs.Events.{TellsDiskCount};
 
 use crate::event::Ended;
@@ -26,7 +26,7 @@ pub struct Bounds {
 }
 
 impl<N: Node> Site<N> {
-    /// A turn.
+    /// Takes a turn: receives or wakes, reads the clock, and handles the event that it comes to, if any.
     pub fn turn<L: Link, C: Clock, D: Disk>(
         &mut self,
         alloc: Global,
@@ -53,22 +53,12 @@ impl<N: Node> Site<N> {
         ensures faults { IfOk result (λ kept. (L.fault_count link.new ≡ L.fault_count link.old)
             × (C.fault_count clock.new ≡ C.fault_count clock.old)) }
         ensures passed { IfOk result (λ kept. HasPassed (N.role self.old.node) self.old.sender.boot
-            bounds.period
-            (standing (N.state self.old.node) (records_of store) (journal_at store)
-            self.old.own self.old.ears self.old.clock self.old.due self.old.sender.count
-            self.old.woken)
-            (standing (N.state self.new.node) (records_of kept) (journal_at kept)
-            self.new.own self.new.ears self.new.clock self.new.due self.new.sender.count
-            self.new.woken)
-            spent (spent + 1)
+            bounds.period (served_of N.state self.old store) (served_of N.state self.new kept) spent (spent + 1)
             (L.given link.old) (L.given link.new) (L.sent link.old) (L.sent link.new)
             (L.loss_count link.old) (L.loss_count link.new)
             (C.readings clock.old) (C.readings clock.new)) }
         ensures ended { IfErr result (λ ended. HasEnded (N.role self.old.node) self.old.sender.boot
-            bounds.period bounds.turns spent
-            (standing (N.state self.old.node) (records_of store) (journal_at store)
-            self.old.own self.old.ears self.old.clock self.old.due self.old.sender.count
-            self.old.woken)
+            bounds.period bounds.turns spent (served_of N.state self.old store)
             (L.given link.old) (L.given link.new) (L.sent link.old) (L.sent link.new)
             (L.loss_count link.old) (L.loss_count link.new)
             (C.readings clock.old) (C.readings clock.new)
