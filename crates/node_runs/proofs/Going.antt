@@ -90,7 +90,7 @@ module _ {S : Type 0} (role : Role S) (boot : Boot) (period : ℕ) (to_come : Op
       → Comes role boot period to_come start left turns posts s → GoesOn role start s
   all_go_on left turns posts s comes = kept_by_all (GoesOn role start) starts_on goes_turn goes_own goes_rewriting goes_look left turns posts s comes
 
-  -- ---- what was received is what the turns tell
+  -- ---- what was received is what the turns say
 
   turns-join : (turns more : List Turn) → datagrams_in (turns ++ more) ≡ datagrams_in turns ++ datagrams_in more
   turns-join [] more = refl

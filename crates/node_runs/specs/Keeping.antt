@@ -29,11 +29,11 @@ done_to kept (Some (rewrites keep)) = rewritten keep kept
 abbrev pub KeepsWith : {D : Type 0} → Bool → (D → ℕ) → (D → ℕ → List ℕ → Type 0) → D → D → List Record → Option Deed → Type 0
 KeepsWith is_told moment left_since before after kept met = KeepsOn is_told moment left_since before after (kept ∷ done_to kept met ∷ [])
 
--- so with one record more, if there is one
+-- the same with one record more, if there is one
 abbrev pub KeepsPut : {D : Type 0} → Bool → (D → ℕ) → (D → ℕ → List ℕ → Type 0) → D → D → List Record → Option Record → Type 0
 KeepsPut is_told moment left_since before after kept met = KeepsWith is_told moment left_since before after kept (put_of met)
 
--- the records that may be on the disk in the end
+-- the records that can be on the disk in the end
 abbrev pub records_with : {S : Type 0} → Served S → Undone → List Record
 records_with s undone = done_to s.kept undone.met
 

@@ -31,7 +31,7 @@ pub record OneSent (before after : Option (List Datagram)) (losses later : ℕ) 
   pub went : Puts before after (what_went ok d)
   pub counts : later ≡ fault_count_after (not ok) losses
 
--- A clock was read so often, and gave these readings. What isn't told stays so.
+-- A clock was read once for each of these readings, and gave them. What isn't known of it before isn't known after.
 abbrev pub Reads : Option (List ℕ) → Option (List ℕ) → List ℕ → Type 0
 Reads None after read = after ≡ None
 Reads (Some left) after [] = after ≡ Some left

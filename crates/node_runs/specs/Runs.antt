@@ -25,7 +25,7 @@ use Rattle.node_runs.specs.Hearing.{Ears, hears}
 use Rattle.node_runs.specs.Posting.{Posted, posted, none_posted}
 
 -- The core of a node: its step on the records that it keeps, at a clock, on an event; which message ends it; and which bodies it
--- needs, where its records may be rewritten with them, and what it is without the others. A node that holds no bodies never rewrites.
+-- needs, where its records can be rewritten with them, and what it is without the others. A node that holds no bodies never rewrites.
 pub record Role (S : Type 0) : Type 0 where
   pub node : NodeId
   pub step : List Record → S → ℕ → Event → Step S
@@ -56,14 +56,14 @@ abbrev pub readings_in : List Turn → List ℕ
 readings_in [] = []
 readings_in (turn ∷ turns) = reading_in turn ∷ readings_in turns
 
--- Where the records stand on the disk: in a journal with this superblock, or with none, whose next record goes to this gate, and which
--- may have so many bytes.
+-- Where the records are on the disk: in a journal with this superblock, or with none, whose next record goes to this gate, and whose
+-- limit is so many bytes.
 pub record JournalAt : Type 0 where
   pub superblock : Option Superblock
   pub end : ℕ
   pub limit : ℕ
 
--- so for a journal of these payloads
+-- the same of a journal of these payloads
 abbrev pub journal_with : Option Superblock → List (List ℕ) → ℕ → JournalAt
 journal_with super payloads limit = record { superblock = super; end = end_in super payloads; limit = limit }
 
@@ -91,7 +91,7 @@ moved_to journal records = record journal {
 abbrev pub lacks : JournalAt → List Record → Option ℕ
 lacks journal records = full_need journal.superblock journal.end (size_of records) journal.limit
 
--- the bytes from which on records are rewritten that never were
+-- how many bytes records take before they are rewritten for the first time
 abbrev pub least_area : ℕ
 least_area = 1048576
 
@@ -100,8 +100,8 @@ least_area = 1048576
 abbrev pub is_due : Area → Bool
 is_due area = nat_le (least_area + 2 * area.first) area.length
 
--- A served node: its state, what it keeps, and where that stands; its messages to itself that it hasn't handled, what it keeps of its
--- link, the clock that it used last, when its next Wake is due, how many messages it posted; and whether a Wake has come, after which it
+-- A served node: its state, what it keeps, and where that is on its disk; its messages to itself that it hasn't handled, what it keeps of
+-- its link, the clock that it used last, when its next Wake is due, how many messages it posted; and whether a Wake has come, after which it
 -- hasn't seen yet whether its records are to be rewritten.
 pub record Served (S : Type 0) : Type 0 where
   pub state : S
@@ -114,7 +114,7 @@ pub record Served (S : Type 0) : Type 0 where
   pub journal : JournalAt
   pub woken : Bool
 
--- Wakes stand on a grid: the next one is due a period after this one was, or, where that has passed, a period after now.
+-- The next Wake is due a period after this one was due, or, where that has passed, a period after now.
 abbrev pub next_due : ℕ → ℕ → ℕ → ℕ
 next_due period now due = if nat_le (counted (due + period)) now then now + period else counted (due + period)
 
@@ -241,7 +241,7 @@ module _ {S : Type 0} (role : Role S) (boot : Boot) (period : ℕ) where
         → Comes to_come start left turns before s → Passes left s more mailed next → Takes left after (datagrams_in more)
         → Comes to_come start after (turns ++ more) (before ++ mailed) next
 
-  -- The node is in the midst of this event: all before it is done, and of the event nothing. The turn that it is of is told.
+  -- The node has come to this event: all before it is done, and nothing of the event. The list has the turn of the event, if it is of one.
   pub data Meets (to_come : Option (List Datagram)) (s : Served S) : Event → Served S → List Turn → Type 0 where
     in_turn : (turn : Turn) (happens : Event) → s.own ≡ [] → s.woken ≡ false → Begins to_come (s.due - s.clock) turn → event_in s turn ≡ Some happens
         → Meets to_come s happens (meets s turn) (turn ∷ [])

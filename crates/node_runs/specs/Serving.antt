@@ -15,7 +15,7 @@ use Rattle.node_runs.specs.Posting.{posted, none_posted}
 use Rattle.node_runs.specs.Runs.{Role, Turn, Served, Begins, Comes, Meets, Rewrites, needed_in, event_in, ends_event, step_at, datagrams_in, readings_in}
 
 -- What a job left undone: the turn that it was in; a datagram that was received, where the clock failed after it; what it was doing to
--- its records, if that may be on the disk: the record of the event that it was in was put, or they were rewritten; and what it posted of
+-- its records, if that can be on the disk: the record of the event that it was in was put, or they were rewritten; and what it posted of
 -- that event.
 pub record Undone : Type 0 where
   pub turn : List Turn
@@ -91,7 +91,7 @@ module _ {S : Type 0} (role : Role S) (boot : Boot) (period : ℕ) where
       × ((turn : Turn) × Begins to_come (s.due - s.clock) turn × (undone ≡ record nothing_undone { unread = datagrams_in (turn ∷ []) }))
   -- the disk failed in an event, or as the records were rewritten
   EndsServing limit spent to_come s undone (status.DiskFault count) = FailsInEvent to_come s undone ⊎ FailsInRewriting s undone
-  -- the record of an event has no room: the journal would need more bytes than it may have
+  -- the record of an event has no room: the journal would need more bytes than its limit
   EndsServing limit spent to_come s undone (status.JournalFull need most) =
       (it : IsIn to_come s) × (undone.turn ≡ it.turn) × IsUntouched undone
       × ((rec : Record) × (record_in to_come s it ≡ Some rec) × IsOver it.met.journal.limit (needed_in it.met.journal rec) need most)
@@ -122,7 +122,7 @@ module _ {S : Type 0} (role : Role S) (boot : Boot) (period : ℕ) where
     pub sends : Sends sent_before sent_after losses_before losses_after (posts ++ undone.more)
     pub ending : EndsServing limit (length turns) to_come end undone said
 
--- the counts of faults of the link and the clock rose exactly where the status tells of them
+-- the counts of faults of the link and the clock rose exactly where the status reports them
 abbrev pub HasServeCause : ℕ → ℕ → ℕ → ℕ → Status → Type 0
 HasServeCause link_before link_after clock_before clock_after (status.LinkFault count) =
     Rose link_before link_after × (count ≡ link_after) × (clock_after ≡ clock_before)

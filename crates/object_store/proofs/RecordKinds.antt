@@ -24,7 +24,7 @@ first_byte (kept.Meta from number now nodes request) = λ is. omega (arith, is)
 pub no_superblock : (bytes : List ℕ) (rec : Record) → bytes ≡ record_text rec → slice_index bytes 0 ≢ superblock_kind
 no_superblock bytes rec is = λ kind. first_byte rec (sym (ap (λ (b : List ℕ). slice_index b 0) is) ∙ kind)
 
--- a record's bytes may be given to a journal
+-- a record's bytes can be given to a journal
 given : (rec : Record) → FitsRecord rec → IsGiven (record_text rec)
 given rec fits =
     let bound = text_bound rec fits in

@@ -14,7 +14,7 @@ module _ {D : Type 0} {g : Ghosts D} where
   disk_after_put (Err (append.Full store need limit)) = disk_of store
   disk_after_put (Err (append.OutOfMemory store)) = disk_of store
 
-  -- the count of faults that a put tells
+  -- the count of faults that a put reports
   abbrev pub put_fault : Result (Store D g) (AppendErr D g) → Option ℕ
   put_fault (Ok store) = None
   put_fault (Err (append.Broken count disk)) = Some count

@@ -2,7 +2,7 @@ use crate::store::Store;
 use disk_model::Disk;
 use xt_journal::Journal;
 
-/// Why a journal isn't loaded. It comes back as it was.
+/// Why a journal isn't loaded. It is returned as it was.
 #[derive(Drop)]
 pub enum StoreErr<D: Disk> {
     /// The payload at this index, from 0, isn't a record in its place, and those before it are.
@@ -24,7 +24,7 @@ pub enum AppendErr<D: Disk> {
         need: u64,
         limit: u64,
     },
-    /// The store comes back as it was. No device call was made.
+    /// The store is as it was. No device call was made.
     OutOfMemory {
         store: Store<D>,
     },

@@ -4,7 +4,7 @@
 ghost use Rattle.object_store.specs.Laws.{AreOfOneList, NoneIsBad};
 
 /// Where the payloads of a journal are those of records that a store had, loading gives these very records, and never
-/// tells one as bad.
+/// reports one as bad.
 pub fn loads_what_was_put()
     ensures one { AreOfOneList }
     ensures sound { NoneIsBad }

@@ -30,7 +30,7 @@ impl From<AllocError> for Trouble {
     }
 }
 
-/// The record that the payload is, where it is one in its place.
+/// Reads a payload as a record; none where it isn't one in its place.
 fn record_in_place(
     alloc: Global,
     folding: &Folding,
@@ -52,7 +52,7 @@ fn record_in_place(
     }
 }
 
-/// The records that the payloads are.
+/// Reads the payloads as records, each in its place after those before it.
 pub fn read_all(alloc: Global, payloads: &[Placed]) -> Result<RecordLog, Trouble>
     ensures { IsReadOf (payloads_of payloads.now) result }
 {

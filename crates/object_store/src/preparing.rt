@@ -1,4 +1,4 @@
-//! What may fail before a record is put.
+//! What can fail before a record is put.
 ghost use Rattle.std.specs.Prelude.{◌≡◌, ◌≢◌, ◌<◌, ◌≤◌, ◌^◌, IfOk, OnOk, length, slice_index};
 ghost use Rattle.xt_messages.specs.Limits.{FitsRecord};
 ghost use Rattle.replica_records.specs.Logs.{records_in, HasRoom};

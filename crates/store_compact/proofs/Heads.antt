@@ -1,4 +1,4 @@
--- Records may be rewritten with the bodies that heads name.
+-- Records can be rewritten with the bodies that heads name.
 use Rattle.std.proofs.Common.{◌≡◌, List, sym, subst}
 use Rattle.xt_messages.specs.declared.record.KeepBody.{KeepBody}
 use Rattle.xt_messages.specs.declared.record.Record.{Record}

@@ -1,4 +1,4 @@
--- when rewritten records may take the place of the old ones
+-- when rewritten records can take the place of the old ones
 use Rattle.std.specs.Prelude.{List}
 use Rattle.xt_messages.specs.declared.record.KeepBody.{KeepBody}
 use Rattle.xt_messages.specs.declared.record.Record.{Record}

@@ -46,7 +46,7 @@ pub place_here : {D : Type 0} {g : Ghosts D} (store : Store D g) → IsTrue g.is
 place_here {g = g} store told =
     place_of_end (superblock_of (journal_of store)) (g.kept (disk_of store)) (place_of (journal_of store)) (texts_of (records_of store)) (store.journal.ends told) (store.keeps told)
 
--- what a put into a store tells of its room
+-- what the result of a put says of the room in its journal
 module _ {D : Type 0} {g : Ghosts D} (store : Store D g) (told : IsTrue g.is_told) (rec : Record) (limited : limit_of (journal_of store) ≡ JOURNAL) where
   abbrev records : List Record
   records = records_of store

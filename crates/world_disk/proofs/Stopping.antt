@@ -90,12 +90,12 @@ module _ (fails : ℕ → ℕ → Bool) (call : ℕ) (stops : IsToStop call fail
       subst (λ (c : ℕ). StandsIn super bytes (payloads_after_stop c fill (texts_of records) (record_text rec)))
       (the_call stopped.call stopped.four stopped.first) (stopped.image fill bytes filled)
 
-  -- a crash leaves what stands for what the call tells
+  -- what a crash leaves is a journal of the records that the stop's call leaves
   pub told_by_call : (super : Option Superblock) (records : List Record) (rec : Record) (kept : Kept) → IsStopped super fails kept (texts_of records) (record_text rec)
       → (fill : ℕ) (bytes : List ℕ) → IsFilled fill kept bytes → StandsFor bytes (payloads_after_stop call fill (texts_of records) (record_text rec))
   told_by_call super records rec kept stopped fill bytes filled = ∣ (super, told_in super records rec kept stopped fill bytes filled) ∣₁
 
-  -- what stands is what the stop leaves of the records
+  -- these are the records after the stop
   pub left_in : (super : Option Superblock) (fill : ℕ) (records : List Record) (rec : Record) (kept : Kept) (bytes : List ℕ)
       → IsStopped super fails kept (texts_of records) (record_text rec) → IsFilled fill kept bytes
       → StandsIn super bytes (texts_of (own_after records rec (kept_by (Some (record { call = call; fill = fill })))))

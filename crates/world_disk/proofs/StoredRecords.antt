@@ -48,7 +48,7 @@ reads_so bytes super payloads stands =
     let same : payloads ≡ payloads_of (placed_in super payloads) = sym (payloads_in super payloads) in
     ∣ (super, record { stands = subst (λ (ps : List (List ℕ)). StandsIn super bytes ps) same stands; places = ap (placed_in super) same }) ∣₁
 
--- where records stand, nothing else is read
+-- where the bytes stand for records, nothing else is read
 pub nothing_else : (bytes : List ℕ) (reading : Reading) → HasRecords bytes → IsTheReading bytes reading → ((placed : List Placed) → reading ≡ Stands placed → ⊥) → ⊥
 nothing_else bytes reading has is other =
     ∥∥₁_elim has (λ x y. absurd x) (λ some.

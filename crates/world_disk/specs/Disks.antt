@@ -22,7 +22,7 @@ pub record AreOn (bytes : List ℕ) (records : List Record) : Type 0 where
 abbrev pub HasRecords : List ℕ → Type 0
 HasRecords bytes = ∥ ((records : List Record) × AreOn bytes records) ∥₁
 
--- no call of the disk fails, a journal stands on it, and that journal of these records, with this superblock or none, is within its limit
+-- no call of the disk fails, it holds a journal, and that journal of these records, with this superblock or none, is within its limit
 pub record IsCalm (disk : Memory) (records : List Record) (limit : ℕ) (super : Option Superblock) : Type 0 where
   pub never_fails : (looks changes : ℕ) → planned disk.plan looks changes ≡ false
   pub ready : IsReady (memory_kept disk).read

@@ -20,7 +20,7 @@ own_after records rec StoppedKept = records ++ rec ∷ []
 own_after records rec StoppedLost = records
 
 -- The disk began with these bytes, and was only loaded since: a crash at any moment since it was made leaves these bytes, or,
--- where no record can stand in them, what is torn while they are made a journal.
+-- where they can hold no record, what is torn while they are made a journal.
 abbrev pub IsLoadedWith : List ℕ → Memory → Type 0
 IsLoadedWith bytes disk = (image : List ℕ) → MightHaveLeft disk.first disk.changes 0 image → LeavesAsBefore (at_rest bytes) image
 
@@ -35,8 +35,8 @@ pub record IsReadAgain (old new : Memory) (records : List Record) : Type 0 where
   pub left : IsImage (memory_kept old) image
   pub started : IsStartedFrom image new records
 
--- The node stopped in this append, in the stop's call. Whatever the byte, a crash leaves of its disk what stands for what the call
--- tells; with the stop's byte, it leaves these bytes.
+-- The node stopped in this append, in the stop's call. Whatever the byte, what a crash leaves of its disk is a journal of the records that
+-- this call leaves; with the stop's byte, it leaves these bytes.
 pub record IsLeftBy (stop : Stop) (records : List Record) (rec : Record) (image : List ℕ) : Type 0 where
   pub disk : Memory
   pub tells : (fill : ℕ) (bytes : List ℕ) → IsFilled fill (memory_kept disk) bytes

@@ -9,7 +9,7 @@ use Rattle.xt_messages.specs.declared.record.Record.{Record}
 use Rattle.xt_protocol.specs.Forgetting.{rewritten}
 use Rattle.world_disk.specs.Room.{has_room_for, moved_to}
 
--- its records in order, the superblock of their journal, where it has one, and the disk on which they stand
+-- its records in order, the superblock of their journal, where it has one, and the disk that holds them
 pub record Stored : Type 0 where
   pub records : List Record
   pub superblock : Option Superblock

@@ -1,4 +1,4 @@
-//! The records of one node, on a disk in memory that a crash may leave in any allowed state.
+//! The records of one node, on a disk in memory that a crash can leave in any allowed state.
 //!
 //! A `NodeStore` shows its records and its disk, and the bytes on the disk stand for exactly these records. An append in which
 //! the node stops stops a disk in that call, and what that disk leaves is what the node has then. A node that starts again reads
@@ -10,7 +10,7 @@ mod node_store;
 
 pub use node_store::NodeStore;
 
-/// How long a node's journal may be, in bytes.
+/// The limit of a node's journal, in bytes.
 pub const JOURNAL: u64 = 1_073_741_824;
 
 /// A node's records are rewritten where the number of those that were put since they were loaded last is a multiple of this.

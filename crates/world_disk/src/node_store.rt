@@ -36,7 +36,7 @@ pub struct NodeStore {
     store: Store<MemoryDisk>,
 }
 
-// A derived drop is part of the code of each function that may drop a value. This one is proved once.
+// A derived drop is part of the code of each function that can drop a value. This one is proved once.
 impl Drop for NodeStore {
     fn drop(self) {
         let NodeStore { store: _ } = self;
@@ -62,7 +62,7 @@ impl Model for NodeStore {
         (superblock_of (journal_of node.store)) };
 }
 
-/// The journal on a new disk on which records stand, and its payloads. The disk doesn't fail while it is loaded.
+/// Loads the journal on a new disk that holds records, with its payloads. The disk doesn't fail meanwhile.
 fn journal_on(
     alloc: Global,
     disk: MemoryDisk,
@@ -92,7 +92,7 @@ fn journal_on(
     }
 }
 
-/// The store on a new disk on which records stand. The disk doesn't fail while it is loaded.
+/// Loads the store on a new disk that holds records. The disk doesn't fail meanwhile.
 fn store_on(alloc: Global, disk: MemoryDisk) -> Result<Store<MemoryDisk>, OutOfMemory>
     requires made { disk.changes ≡ [] }
     requires stands { HasRecords (memory_kept disk).read }
@@ -115,7 +115,7 @@ fn store_on(alloc: Global, disk: MemoryDisk) -> Result<Store<MemoryDisk>, OutOfM
     }
 }
 
-/// The records that stand in these bytes, on a new disk that never fails.
+/// The records in these bytes, on a new disk that never fails.
 fn restarted(alloc: Global, bytes: Octets) -> Result<NodeStore, OutOfMemory>
     requires { HasRecords bytes }
     ensures started { IfOk result (λ node. IsStartedFrom bytes node.disk node.records) }
@@ -128,8 +128,8 @@ fn restarted(alloc: Global, bytes: Octets) -> Result<NodeStore, OutOfMemory>
     })
 }
 
-/// Puts a record that its store can't take whole: its disk stops in this one of the four calls. Gives what a crash
-/// leaves of that disk.
+/// Appends a record on a disk that stops in this one of the four calls, and returns the bytes that a crash leaves of
+/// that disk.
 fn left_by_stop(
     alloc: Global,
     store: Store<MemoryDisk>,
@@ -172,7 +172,7 @@ impl NodeStore {
         restarted(alloc, Octets::new(alloc))
     }
 
-    /// What a crash leaves of the disk. It stands for the records.
+    /// The bytes that a crash leaves of the disk: a journal of the records.
     pub fn bytes(&self) -> Result<Octets, OutOfMemory>
         ensures left { IfOk result (IsImage (memory_kept self.now.disk)) }
         ensures same { IfOk result (λ bytes. ∥ AreOn bytes self.now.records ∥₁) }
@@ -183,7 +183,7 @@ impl NodeStore {
         self.store.disk().image()
     }
 
-    /// What the node has that starts again: the same records, read from what a crash leaves of its disk.
+    /// The records after the node has started again: the same ones, read from what a crash leaves of its disk.
     pub fn reloaded(&self, alloc: Global) -> Result<NodeStore, OutOfMemory>
         ensures same { IfOk result (λ node. node.records ≡ self.now.records) }
         ensures superblock { IfOk result (λ node. node.superblock ≡ self.now.superblock) }
@@ -192,7 +192,7 @@ impl NodeStore {
         restarted(alloc, self.bytes()?)
     }
 
-    /// Puts a record after the others.
+    /// Puts a record after the others. `Full` says how many bytes the journal would need, and its limit.
     pub fn put(self, alloc: Global, rec: &Record) -> Result<NodeStore, WorldErr>
         requires fits { FitsRecord rec.now }
         requires place { IsInPlace (fold_of self.records) rec.now }
@@ -211,8 +211,8 @@ impl NodeStore {
         }
     }
 
-    /// Rewrites the records with these bodies, where the journal has room for a new area of them, and tells whether it had. Where
-    /// it hadn't, nothing has changed. A crash at any moment of it leaves the old records or the rewritten ones.
+    /// Rewrites the records with these bodies where the journal has room for a new area of them, and returns whether it had. If not,
+    /// nothing has changed. A crash at any moment of it leaves the old records or the rewritten ones.
     pub fn compact(self, alloc: Global, keep: &Keep) -> Result<(NodeStore, bool), OutOfMemory>
         requires { MayBecome keep.now self.records }
         ensures { IfOk result (λ ended. IsRewritten self keep.now ended.1 ended.0) }
@@ -226,7 +226,7 @@ impl NodeStore {
         }
     }
 
-    /// What the node has that stopped in one of the four calls of an append: what a disk leaves that stops there.
+    /// The records after the node stopped in one of the four calls of an append: what a disk leaves that stops there.
     pub fn stopped(&self, alloc: Global, rec: &Record, stop: Stop) -> Result<NodeStore, WorldErr>
         requires fits { FitsRecord rec.now }
         requires place { IsInPlace (fold_of self.now.records) rec.now }
@@ -240,7 +240,7 @@ impl NodeStore {
             (journal_overflow self.now.superblock self.now.records rec.now) result }
         ensures error { IfErr result IsFullOrMemory }
     {
-        // Loading a journal that stands makes one sync before the append's calls.
+        // Loading a journal makes one sync before the append's calls.
         let counted = Stop {
             call: stop.call + 1,
             fill: stop.fill,
@@ -251,7 +251,7 @@ impl NodeStore {
         Ok(restarted(alloc, left)?)
     }
 
-    /// The records in order.
+    /// A copy of the records, in order.
     pub fn copies(&self, alloc: Global) -> Result<Vec<Record>, OutOfMemory>
         ensures { IfOk result (λ made. made.items ≡ self.now.records) }
     {
