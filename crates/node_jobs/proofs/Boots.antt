@@ -1,4 +1,4 @@
--- the boot that records tell, and the put of the next one
+-- the last boot in records, and the put of the next one
 use Rattle.std.proofs.Common.{ℕ, suc, ◌≡◌, ◌≤◌, ◌<◌, ◌+◌, ◌^◌, refl, ap, subst, Some, None, List, [], ◌∷◌, ◌++◌, arith}
 use Rattle.std.specs.Prelude.{IsTrue}
 use Rattle.std.specs.List.{All, fold}

@@ -33,11 +33,11 @@ use Rattle.node_loop.specs.Stores.{journal_at}
 use Rattle.node_jobs.specs.Boots.{boot_record, booted}
 use Rattle.node_jobs.specs.Disks.{Medium, StandsWith, HasBadRecord, EndsUnloaded, EndsUnbooted, IsLeftUnloaded, IsUnloaded, IsUnbooted, KeepsFrom, ComesFrom, ComesTo, IsLoaded, IsBooted, CannotBoot, StandAt}
 
--- what contracts are told of a disk, as a trait's members
+-- what contracts know of a disk, by the members of its trait
 abbrev pub medium_of : {D : Type 0} → Ghosts D → Medium D
 medium_of g = record { is_told = g.is_told; kept = g.kept; moment = g.moment; left_since = g.left_since; fault_count = g.fault_count }
 
--- why a disk gives no records, where it is told that it reads the same bytes
+-- why no records are loaded from a disk, where it is known that it reads the same bytes
 reread : (is_told : Bool) (bytes same : List ℕ) → (IsTrue is_told → same ≡ bytes) → (said : Status)
     → EndsUnloaded is_told same said → EndsUnloaded is_told bytes said
 reread is_told bytes same is (status.NotOurs first) why = λ told. subst (λ (b : List ℕ). IsTheReading b (Foreign first)) (is told) (why told)
@@ -178,7 +178,7 @@ module _ {D : Type 0} {g : Ghosts D}
     };
   }
 
--- where the records stand of a store that was loaded, and was given the record of its boot
+-- where the records of a loaded store are on the disk, once that of its boot was put
 module _ {D : Type 0} {g : Ghosts D} where
   pub stand_at : (before : D) (limit : ℕ) (old new : Store D g) (boot : Boot) → IsLoaded (medium_of g) before limit old → IsBooted (medium_of g) old new boot
       → IsTrue g.is_told → StandAt (g.kept before).read (records_of old) (boot_record (records_of old)) (journal_at new)
@@ -193,7 +193,7 @@ module _ {D : Type 0} {g : Ghosts D} where
         is = boots.journal ∙ (λ i. grown (record { superblock = super; end = place i; limit = sym (ap (λ (j : JournalAt). j.limit) boots.journal) i }) (Some rec));
       }
 
-  -- how long its journal may be
+  -- the limit of its journal
   pub room_at : (before : D) (limit : ℕ) (old new : Store D g) (boot : Boot) → IsLoaded (medium_of g) before limit old → IsBooted (medium_of g) old new boot
       → (journal_at new).limit ≡ limit
   room_at before limit old new boot is boots = ap (λ (j : JournalAt). j.limit) boots.journal ∙ is.room

@@ -1,11 +1,11 @@
--- the boot of a node, as its records tell it
+-- the boot of a node, by its records
 use Rattle.std.specs.Prelude.{ℕ, ◌+◌, List, [], ◌∷◌, ◌++◌, fold}
 use Rattle.xt_base.specs.declared.ids.Boot.{Boot}
 use Rattle.xt_messages.specs.declared.record.Record.{Record}
 use Rattle.xt_messages.specs.declared.record.Record.TheVariants as kept
 use Rattle.xt_protocol.specs.Folds.{boot_after}
 
--- the boot that records tell: the last one that was kept, or 0
+-- the last boot in these records, or 0
 abbrev pub stored_boot : List Record → ℕ
 stored_boot records = fold boot_after 0 records
 

@@ -25,8 +25,8 @@ use Rattle.node_loop.specs.Events.{HasDiskCause, IsFullFor}
 use Rattle.node_loop.specs.Stores.{journal_at}
 use Rattle.node_jobs.specs.Boots.{stored_boot, next_boot, boot_record, booted}
 
--- What contracts are told of a disk: whether they know what it keeps, and what that is; its moment, and what a crash at some moment
--- from an earlier one on might have left; and how often it has failed, which is known of each disk.
+-- What contracts know of a disk: whether its contents are known, and what they are; its moment, and what a crash at some moment from an
+-- earlier one on might have left; and how often it has failed, which is known of each disk.
 pub record Medium (D : Type 0) : Type 1 where
   pub is_told : Bool
   pub kept : D → Kept
@@ -41,11 +41,11 @@ medium is_told kept moment left_since fault_count =
 
 -- ---- what is left
 
--- these records stand there, or what is made of them, where that is done to them
+-- the bytes are a journal of these records, or of the records after this deed, if there is one
 abbrev pub StandsWith : List Record → Option Deed → List ℕ → Type 0
 StandsWith records met image = StandsFor image (texts_of records) ⊎ StandsFor image (texts_of (done_to records met))
 
--- There these records stand, and one more after them, once it is put, in a journal of these bytes.
+-- These bytes are a journal of these records. It is described as it is once one more is put after them.
 pub record StandAt (bytes : List ℕ) (records : List Record) (rec : Record) (journal : JournalAt) : Type 0 where
   pub super : Option Superblock
   pub stand : StandsIn super bytes (texts_of records)
@@ -59,7 +59,7 @@ EndsUnopened (status.LinkFault count) = Unit {0}
 EndsUnopened status.OutOfMemory = Unit {0}
 EndsUnopened _ = ⊥
 
--- These bytes stand for payloads, each with its gate, of which the first that is no record in its place has its gate at this place.
+-- These bytes are a journal in which not every payload is a record in its place, and the first such payload has its gate at this place.
 pub record HasBadRecord (bytes : List ℕ) (place : ℕ) : Type 0 where
   pub placed : List Placed
   pub stand : ReadsAs bytes (Stands placed)
@@ -69,8 +69,8 @@ pub record HasBadRecord (bytes : List ℕ) (place : ℕ) : Type 0 where
   pub is_there : bad ≡ get_or placed index bad
   pub is_place : place ≡ bad.gate
 
--- Why a disk that reads these bytes, where that is told, gives no records: it failed; they are no journal, one of another layout, or a
--- damaged one, or a payload is no record in its place; or memory ran out.
+-- Why no records are loaded from a disk that reads these bytes, where these are known: it failed; they are no journal, one of another
+-- layout, or a damaged one, or a payload isn't a record in its place; or memory ran out.
 abbrev pub EndsUnloaded : Bool → List ℕ → Status → Type 0
 EndsUnloaded is_told bytes (status.DiskFault count) = Unit {0}
 EndsUnloaded is_told bytes (status.NotOurs first) = IsTrue is_told → IsTheReading bytes (Foreign first)
@@ -79,16 +79,16 @@ EndsUnloaded is_told bytes (status.Damaged place) = IsTrue is_told → IsTheRead
 EndsUnloaded is_told bytes status.OutOfMemory = Unit {0}
 EndsUnloaded is_told bytes _ = ⊥
 
--- what is left of a disk that gave no records: what a load leaves that fails, or a journal with no record
+-- what a disk holds after no records were loaded: what a load leaves that fails, or a journal with no record
 abbrev pub IsLeftUnloaded : Kept → Kept → Type 0
 IsLeftUnloaded old new = LeavesDisk old new ⊎ ((length old.read ≤ 13) × (new ≡ at_rest (journal_of [])))
 
--- the record of the next boot, which is within its limit, may be on the disk
+-- the record of the next boot, which is within its limit, can be on the disk
 abbrev pub MayBeBooted : List Record → Option Record → Type 0
 MayBeBooted records met = FitsBoot (next_boot records) × (met ≡ Some (boot_record records))
 
--- Why the boot after these records isn't kept, in a journal with this superblock or none that may have so many bytes, and whether its
--- record may be on the disk.
+-- Why the boot after these records isn't kept, in a journal with this superblock or none and this limit in bytes, and whether its record
+-- can be on the disk.
 abbrev pub EndsUnbooted : Bool → Option Superblock → List Record → ℕ → Option Record → Status → Type 0
 -- the disk failed as the record was put
 EndsUnbooted is_told super records limit met (status.DiskFault count) = MayBeBooted records met
@@ -105,7 +105,7 @@ EndsUnbooted is_told super records limit met _ = ⊥
 module _ {D : Type 0} (m : Medium D) where
   -- ---- from the disk that was handed in
 
-  -- The disk gave no records, and what it is left as. A crash at any moment leaves what it might have left before.
+  -- No records were loaded, and what the disk holds then. A crash at any moment leaves what it might have left before.
   pub record IsUnloaded (before after : D) (said : Status) : Type 0 where
     pub why : EndsUnloaded m.is_told (m.kept before).read said
     pub cause : HasDiskCause (m.fault_count before) (m.fault_count after) said
@@ -113,8 +113,8 @@ module _ {D : Type 0} (m : Medium D) where
     pub left : IsTrue m.is_told → IsLeftUnloaded (m.kept before) (m.kept after)
 
   -- The bytes of the disk stood for these records. Until it had given them, a crash left what it might have left before; then it kept
-  -- these lists of records in turn, those first, and at last the one that is settled. From then on a crash leaves that one, or what is
-  -- made of it, where that may be done to it; and so it is in the end.
+  -- these lists of records in turn, those first, and at last the one that is settled. From then on, and in the end, a crash leaves that one,
+  -- or the records after this deed to it, if there is one.
   pub record KeepsFrom (before after : D) (records : List Record) (lists : List (List Record)) (settled : List Record) (met : Option Deed) : Type 0 where
     pub stood : IsTrue m.is_told → StandsFor (m.kept before).read (texts_of records)
     pub loaded : D

@@ -26,8 +26,8 @@ use Rattle.node_jobs.specs.Disks.{Medium, EndsUnopened, IsUnloaded, IsUnbooted, 
 -- ---- what a node is to do
 
 -- The job of a node: its role, and the state in which it starts from its records at a reading of its clock; what it says when it is
--- ready, and what it has heard by then; the milliseconds between two Wakes, how many turns it takes at most, and how many bytes its
--- journal may have.
+-- ready, and what it has heard by then; the milliseconds between two Wakes, how many turns it takes at most, and its journal's limit in
+-- bytes.
 pub record NodeJob (S : Type 0) : Type 0 where
   pub role : Role S
   pub state_of : List Record → ℕ → S
@@ -45,7 +45,7 @@ period_of times = max 1 (times.lease / 8)
 abbrev pub knows_dir : List ℕ → Ears
 knows_dir address = record { halves = []; book = with_address [] (record { 0 = 900 }) address }
 
--- an OSD that starts from its records, which tell its boot, at a reading of its clock
+-- an OSD that starts from its records at a reading of its clock; its boot is the last one in them
 abbrev pub osd_at : NodeId → TimeSettings → List Record → ℕ → OsdState
 osd_at node times records reading =
     let told = fold_of records in
@@ -85,7 +85,7 @@ module _ {D : Type 0} where
     pub readings : after.readings ≡ before.readings
     pub held : after.held ≡ before.held
 
--- the count of faults of the sink rose exactly where the status tells of it
+-- the count of faults of the sink rose exactly where the status reports it
 abbrev pub HasSinkCause : ℕ → ℕ → Status → Type 0
 HasSinkCause before after (status.SinkFault count) = Rose before after × (count ≡ after)
 HasSinkCause before after _ = after ≡ before
@@ -125,8 +125,8 @@ module _ {D : Type 0} (m : Medium D) where
     -- its boot is kept
     unready : IsUnready ready before after said → EndsEarly ready limit before after said
 
-  -- A node is ready: its disk gave these records, to which it put that of its boot, in a journal that may have so many bytes; then it read
-  -- its clock once, and then it said so.
+  -- A node is ready: these records were loaded from its disk, and that of its boot was appended, in a journal with this limit in bytes; then
+  -- it read its clock once, and then it wrote that it is ready.
   pub record IsReady (ready : List ℕ) (limit : ℕ) (before after : Outside D) (all : List Record) (boot : Boot) (reading : ℕ) (journal : JournalAt)
       : Type 0 where
     pub records : List Record
@@ -148,7 +148,7 @@ module _ {D : Type 0} (m : Medium D) where
     pub records : List Record
     pub are : AreRecords records
     pub fits : FitsBoot (next_boot records)
-    -- where the records stand as serving begins: where they stood in the journal, with their boot after them
+    -- where the records are in the journal as serving begins: as they were loaded, with that of the boot after them
     pub journal : JournalAt
     pub stand : IsTrue m.is_told → StandAt (m.kept before.disk).read records (boot_record records) journal
     pub room : journal.limit ≡ job.limit

@@ -18,10 +18,10 @@ use std::alloc::Global;
 use xt_base::DIR_NODE;
 use xt_messages::Status;
 
-/// The longest datagram that a link gives.
+/// The longest datagram that a link gives, in bytes.
 const DATAGRAM: usize = 65_536;
 
-/// Serves the directory, and says why that ended.
+/// Runs the directory service until it ends. Returns why it ended.
 pub fn serve_directory<K: Sink, L: Link, D: Disk, C: Clock>(
     alloc: Global,
     serving: &Serving,

@@ -1,4 +1,4 @@
-//! The job of a node: it binds its link, loads or makes its store, keeps its boot, reads the clock, says that it is ready, and serves.
+//! The job of a node: it binds its link, loads or makes its store, appends its boot, reads the clock, writes that it is ready, and serves.
 #![tactic(auto)]
 
 mod directory;

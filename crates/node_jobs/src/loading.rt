@@ -11,10 +11,12 @@ use xt_base::Boot;
 use xt_journal::{Journal, LoadErr};
 use xt_messages::{Limited, Record, Status};
 
-/// The last boot that there is.
+/// The greatest number of a boot.
 const LAST_BOOT: u64 = (1 << 62) - 1;
 
-/// The store of the records that stand on a disk, which is made a journal where it is empty.
+/// Loads the records on a disk into a store, whose journal has this limit in bytes. An empty disk is made a journal first.
+///
+/// `Damaged` gives the place of the gate after which the journal goes wrong, or of the first payload that isn't a record in its place.
 #[tactic(auto, using(crate::proofs::Places::bad_inside))]
 pub fn loaded<D: Disk>(alloc: Global, disk: D, limit: u64) -> Result<Store<D>, Ended<D>>
     ensures loads { IfOk result (λ store. IsLoaded
@@ -60,7 +62,7 @@ pub fn loaded<D: Disk>(alloc: Global, disk: D, limit: u64) -> Result<Store<D>, E
     }
 }
 
-/// The boot that a record tells, or else the one before it.
+/// The boot that a record starts, or else the one before it.
 fn boot_after(boot: u64, rec: &Record) -> u64
     ensures { result ≡ boot_after boot rec.now }
 {
@@ -81,7 +83,7 @@ fn stored_boot(records: &[Record]) -> u64
     boot
 }
 
-/// Keeps the boot after the last one of the store.
+/// Appends the record of the boot after the last one in the store, and returns that boot.
 pub fn booted<D: Disk>(alloc: Global, store: Store<D>) -> Result<(Store<D>, Boot), Ended<D>>
     ensures boots { IfOk result (λ done. IsBooted
         (medium D.is_told D.kept D.moment D.left_since D.fault_count) store done.0 done.1) }

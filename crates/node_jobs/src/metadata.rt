@@ -18,10 +18,10 @@ use std::alloc::Global;
 use xt_base::{Address, MRC_NODE};
 use xt_messages::Status;
 
-/// The longest datagram that a link gives.
+/// The longest datagram that a link gives, in bytes.
 const DATAGRAM: usize = 65_536;
 
-/// Serves the metadata, with the directory service at an address, and says why that ended.
+/// Runs a metadata server, with the directory service at an address, until it ends. Returns why it ended.
 pub fn serve_metadata<K: Sink, L: Link, D: Disk, C: Clock>(
     alloc: Global,
     serving: &Serving,

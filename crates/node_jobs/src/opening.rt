@@ -11,7 +11,7 @@ use object_store::Store;
 use std::alloc::Global;
 use xt_messages::Status;
 
-/// Takes an address for the link, chooses the file of the store, and loads that.
+/// Binds the link to its address, opens the store's file, and loads the store, whose journal has this limit in bytes.
 pub fn opened<L: Link, D: Disk>(
     alloc: Global,
     listen: &str,

@@ -21,10 +21,10 @@ use std::alloc::Global;
 use xt_base::{Address, NodeId, Octets, OutOfMemory};
 use xt_messages::{Record, Status};
 
-/// The longest datagram that a link gives.
+/// The longest datagram that a link gives, in bytes.
 const DATAGRAM: usize = 65_536;
 
-/// What an OSD says when it is ready.
+/// The line `ready N` of this OSD.
 fn ready_text(alloc: Global, id: NodeId) -> Result<String, OutOfMemory>
     ensures text { IfOk result (λ text. string_bytes text ≡ osd_ready id) }
     ensures number { id.0 < 2 ^ 32 }
@@ -33,7 +33,7 @@ fn ready_text(alloc: Global, id: NodeId) -> Result<String, OutOfMemory>
     format!(in alloc; "ready {number}\n")
 }
 
-/// An OSD that starts from these records, which tell its boot, at a reading of its clock.
+/// The OSD that starts from these records at a reading of its clock. Its boot is the last one in them.
 fn started(
     alloc: Global,
     id: NodeId,
@@ -65,7 +65,7 @@ fn started(
     )
 }
 
-/// Serves as this OSD, with the directory service at an address, and says why that ended.
+/// Runs this OSD, with the directory service at an address, until it ends. Returns why it ended.
 pub fn serve_osd<K: Sink, L: Link, D: Disk, C: Clock>(
     alloc: Global,
     id: NodeId,

@@ -24,7 +24,7 @@ pub struct Ready<D: Disk> {
     pub reading: u64,
 }
 
-/// Makes a node ready: its link is bound, its store loaded or made, its boot kept, its clock read; then the text says so.
+/// Makes a node ready: binds its link, loads or makes its store, appends its boot, reads its clock, and then writes the text.
 pub fn get_ready<K: Sink, L: Link, D: Disk, C: Clock>(
     alloc: Global,
     serving: &Serving,

@@ -12,7 +12,7 @@ use std::alloc::Global;
 use xt_base::{Address, DIR_NODE, OutOfMemory, Times};
 use xt_messages::Status;
 
-/// The milliseconds between two Wakes.
+/// The milliseconds between two Wakes: an eighth of a lease, and at least 1.
 pub fn period_of(times: Times) -> u64
     ensures value { result ≡ period_of times }
     ensures small { result < 2 ^ 62 }
@@ -21,7 +21,7 @@ pub fn period_of(times: Times) -> u64
     (times.lease() / 8).max(1)
 }
 
-/// What has heard nothing yet, and knows where the directory service is reached.
+/// The ears of a node that has received nothing yet and knows one address, that of the directory service.
 pub fn ears_with(alloc: Global, dir: &Address) -> Result<Ears, OutOfMemory>
     ensures { IfOk result (λ ears. ears ≡ knows_dir dir.now) }
 {
@@ -30,7 +30,7 @@ pub fn ears_with(alloc: Global, dir: &Address) -> Result<Ears, OutOfMemory>
     Ok(ears)
 }
 
-/// Reads the clock, and then says that the node is ready.
+/// Reads the clock, then writes this text to the sink, and returns the reading.
 pub fn ready<C: Clock, K: Sink>(clock: &mut C, out: &mut K, text: &[u8]) -> Result<u64, Status>
     ensures small { IfOk result (λ reading. reading < 2 ^ 62) }
     ensures read { IfOk result (λ reading.
