@@ -110,7 +110,7 @@ record HasAll (left now : Option (List ℕ)) (ended : Bool) (seen : List ℕ) (t
   can : CanHave ended seen bytes
   takes : Takes left now (take taken bytes)
 
--- those that are left, where they are told, and else those that were seen
+-- those that are left, where they are known, and else those that were seen
 all_of : (left now : Option (List ℕ)) (ended : Bool) (seen : List ℕ) (taken : ℕ) → Takes left now seen → taken ≡ length seen → (ended ≡ true → IsAtEnd now)
     → HasAll left now ended seen taken
 all_of None now ended seen taken takes place end =

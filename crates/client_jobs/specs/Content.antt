@@ -10,12 +10,12 @@ unfoldable pub pattern_from : ℕ → ℕ → List ℕ
 pattern_from place zero = []
 pattern_from place (suc count) = place % 251 ∷ pattern_from (place + 1) count
 
--- the source's count of faults rose exactly where it is told to have failed, with that count
+-- the source's count of faults rose exactly where its failure is reported, with that count
 abbrev pub HasReadCause : ℕ → ℕ → ReadErr → Type 0
 HasReadCause before later (read.Failed count) = Rose before later × (count ≡ later)
 HasReadCause before later read.OutOfMemory = later ≡ before
 
--- Bytes were taken of a source, at least one and so many at most, and stand after those that were there; or none, at its end.
+-- Bytes were taken of a source, at least one and so many at most, and appended to those that were there; or none, at its end.
 abbrev pub HasMore : Bool → Option (List ℕ) → Option (List ℕ) → ℕ → List ℕ → List ℕ → Type 0
 HasMore true before after room bytes longer =
     (front : List ℕ) × Takes before after front × (longer ≡ bytes ++ front) × (1 ≤ length front) × (length front ≤ room)

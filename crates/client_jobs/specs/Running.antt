@@ -8,6 +8,7 @@ use Rattle.xt_messages.specs.Limits.{FitsNode}
 use Rattle.xt_messages.specs.declared.status.Limited.TheVariants as limited
 use Rattle.xt_messages.specs.declared.status.Status.{Status}
 use Rattle.xt_messages.specs.declared.status.Status.TheVariants as status
+use Rattle.node_links.specs.declared.link.Datagram.{Datagram}
 use Rattle.node_links.specs.Streams.{Takes, Puts}
 use Rattle.node_runs.specs.Links.{Reads}
 use Rattle.node_runs.specs.Hearing.{with_address}
@@ -37,13 +38,41 @@ use Rattle.client_jobs.specs.declared.session.CommandSession.{CommandSession}
 
 -- ---- what is around a command
 
+-- What contracts know of a link and a clock at one moment, by the members of their traits: what the link is to give and was handed, how
+-- many datagrams were lost, and what the clock is to read.
+abbrev pub around_of : {L C : Type 0} → (L → Option (List Datagram)) → (L → Option (List Datagram)) → (L → ℕ) → (C → Option (List ℕ)) → L → C → Around
+around_of given sent losses readings link clock =
+    record { to_come = given link; sent = sent link; losses = losses link; to_read = readings clock }
+
 -- how often a link, a clock and a source have failed
 pub record Counts : Type 0 where
   pub link : ℕ
   pub clock : ℕ
   pub source : ℕ
 
--- a count rose exactly where the status tells of it, and is what it tells
+abbrev pub counts_of : ℕ → ℕ → ℕ → Counts
+counts_of link clock source = record { link = link; clock = clock; source = source }
+
+-- What contracts know of a sink, a link and a clock at one moment: what the sink holds, what is around a command, and how often each of
+-- the three has failed.
+pub record Outside : Type 0 where
+  pub held : Option (List ℕ)
+  pub around : Around
+  pub sink : ℕ
+  pub link : ℕ
+  pub clock : ℕ
+
+abbrev pub outside_of : {K L C : Type 0} → (K → Option (List ℕ)) → (K → ℕ) → (L → Option (List Datagram)) → (L → Option (List Datagram)) → (L → ℕ) → (L → ℕ)
+    → (C → Option (List ℕ)) → (C → ℕ) → K → L → C → Outside
+outside_of held sink_faults given sent losses link_faults readings clock_faults sink link clock = record {
+  held = held sink;
+  around = around_of given sent losses readings link clock;
+  sink = sink_faults sink;
+  link = link_faults link;
+  clock = clock_faults clock;
+}
+
+-- a count rose exactly where the status reports it, and is the count that it reports
 abbrev pub HasWhy : Counts → Counts → Status → Type 0
 HasWhy before after (status.LinkFault count) =
     Rose before.link after.link × (count ≡ after.link) × (after.clock ≡ before.clock) × (after.source ≡ before.source)
@@ -96,7 +125,7 @@ abbrev pub put_in : Order → Option (Option ℕ)
 put_in (order.Put path pattern lies stripe) = Some pattern
 put_in _ = None
 
--- These are all the bytes of a source. What isn't told has any.
+-- These are all the bytes of a source; any are, where its bytes aren't known.
 abbrev pub AreAll : Option (List ℕ) → List ℕ → Type 0
 AreAll None bytes = Unit {0}
 AreAll (Some left) bytes = bytes ≡ left
@@ -201,7 +230,7 @@ HasAdvanced c before after s held later left (to.Cut count) =
 HasAdvanced c before after s held later left to.Over = (operation_of c.task s.stage ≡ None) × (after ≡ before) × (later ≡ held) × (left ≡ s.session)
 HasAdvanced c before after s held later left (to.Ends why) = EndsAt c before after s left why × (later ≡ held)
 
--- which counts rose in it: those of the link and the clock as its status tells, or the sink's
+-- which counts rose in it: those of the link and the clock as its status reports, or the sink's
 abbrev pub HasAdvanceCause : Counts → Counts → ℕ → ℕ → Advanced → Type 0
 HasAdvanceCause before after sink later (to.On stage) =
     (after.link ≡ before.link) × (after.clock ≡ before.clock) × (later ≡ sink)
@@ -227,7 +256,7 @@ ClosesIf false held later sink risen why ended = (ended ≡ why) × (later ≡ h
 abbrev pub Closes : Option (List ℕ) → Option (List ℕ) → ℕ → ℕ → Status → Status → Type 0
 Closes held later sink risen why ended = ClosesIf (has_last_line why) held later sink risen why ended
 
--- a client that may make its next call
+-- a client that can make its next call
 pub record CanAsk (client : ClientView) : Type 0 where
   pub idle : rows.is_busy client.state.made ≡ false
   pub node : FitsNode client.node
@@ -339,6 +368,13 @@ HasWorked c bytes from after start left held later sink risen before now taken s
     HasEnded c bytes from after start left held later sink risen before now taken said
     ⊎ (IsCut c bytes from after start left held later sink risen before now taken said
     ⊎ IsUnfed c bytes from after start left held later sink risen before now taken said)
+
+-- The job of a command was worked on from its first stage, in a session, by what contracts know of the outside before and after, where a
+-- source has failed so often before and after.
+abbrev pub WorksOver : ClientJob → List ℕ → CommandSession → CommandSession → Outside → Outside → ℕ → ℕ → ℕ → Status → Type 0
+WorksOver job bytes old new before after source later taken said =
+    HasWorked (command_of job) bytes before.around after.around (starts_in job old) new before.held after.held before.sink after.sink
+    (counts_of before.link before.clock source) (counts_of after.link after.clock later) taken said
 
 -- why it ends before its first operation: the link can't be bound, the clock can't be read, or memory runs out
 abbrev pub IsEarly : Status → Type 0

@@ -41,7 +41,7 @@ fn once(alloc: Global, order: &Order) -> Result<Option<MetaReq>, OutOfMemory>
     })
 }
 
-/// The names above this one.
+/// The request for a page of the names after this one.
 fn names_above(alloc: Global, order: &Order, above: &Name) -> Result<Option<MetaReq>, OutOfMemory>
     ensures { IfOk result (λ request. request ≡ plan.names_above order.now above.now) }
 {
@@ -65,7 +65,7 @@ fn lies_on(layout: &Layout) -> (Kind, u8)
     }
 }
 
-/// A new file, which may be read by all, and written by its owner.
+/// The request to create a file that all can read and its owner can write (mode 644).
 fn create_of(alloc: Global, order: &Order) -> Result<Option<MetaReq>, OutOfMemory>
     ensures { IfOk result (λ request. request ≡ plan.create_of order.now) }
 {
@@ -137,7 +137,7 @@ fn get_of(order: &Order) -> Option<Call>
     }
 }
 
-/// The setting of a row.
+/// The request to set a row of the registry, over the version that it has.
 fn set(
     alloc: Global,
     node: NodeId,

@@ -27,7 +27,7 @@ pub struct SourcePieces {
 /// Why a piece of a source isn't taken.
 #[derive(Clone, Copy)]
 pub enum ReadErr {
-    /// It failed, and has had so many faults.
+    /// The source failed; this is its count of faults.
     Failed { count: u64 },
     OutOfMemory,
 }
@@ -165,7 +165,7 @@ impl PatternPieces {
 }
 
 impl SourcePieces {
-    /// None of its bytes was taken yet.
+    /// A source of which no byte was taken yet.
     pub fn new() -> SourcePieces
         ensures { (result.taken ≡ 0) × (result.ended ≡ false) }
     {

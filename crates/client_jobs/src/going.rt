@@ -16,19 +16,19 @@ use xt_messages::{
     Capability, MetaAnswer, MetaRefusal, Refusal, RegistryAnswer, RegistryRow, Status,
 };
 
-/// Nobody has this number.
+/// No node has this number, and all are above it.
 const NOBODY: NodeId = NodeId(0);
 
-/// A page with fewer rows is the last one.
+/// The rows of a full page; a page with fewer is the last one.
 const PAGE_ROWS: usize = 256;
 
-/// A page with fewer names is the last one.
+/// The names of a full page; a page with fewer is the last one.
 const PAGE_NAMES: usize = 512;
 
 /// The first object that `get` doesn't ask for.
 const END_OF_OBJECTS: u64 = 4_294_967_295;
 
-/// The command is at this stage, and writes nothing.
+/// The command goes on at this stage, and writes nothing.
 fn goes_to(alloc: Global, stage: Stage) -> Goes
     ensures { result ≡ plan.goes_to stage }
 {
@@ -57,7 +57,7 @@ fn ends(alloc: Global) -> Goes
     ends_with(Octets::new(alloc))
 }
 
-/// The command is refused.
+/// The command is over: it was refused for this reason.
 fn refused(alloc: Global, rule: Refusal) -> Goes
     ensures { result ≡ plan.refused rule }
 {
@@ -69,7 +69,7 @@ fn refused(alloc: Global, rule: Refusal) -> Goes
     )
 }
 
-/// The stage after the lists.
+/// The first stage of a command after the lists of servers.
 fn main_stage(alloc: Global, order: &Order) -> Result<Stage, OutOfMemory>
     ensures { IfOk result (λ stage. stage ≡ plan.main_stage order.now) }
 {
@@ -83,7 +83,7 @@ fn main_stage(alloc: Global, order: &Order) -> Result<Stage, OutOfMemory>
     }
 }
 
-/// The next piece of what is written comes.
+/// `put` goes on with its next piece, which is still to be taken.
 fn fetch_on(alloc: Global, capability: &Capability, mark: SizeMark) -> Goes
     ensures { result ≡ plan.goes_to (next.Fetches capability.now mark) }
 {
@@ -91,7 +91,8 @@ fn fetch_on(alloc: Global, capability: &Capability, mark: SizeMark) -> Goes
     goes_to(alloc, Stage::Fetches { capability, mark })
 }
 
-/// Whether the piece at this place is asked for.
+/// Whether `get` asks for the piece at byte `from`: it is in the range, in an object with a number, and below the file's size unless it
+/// is the first one.
 fn reads_on(range: Option<(u64, u64)>, capability: &Capability, from: u64, mark: SizeMark) -> bool
     requires { end_in range ≤ 281474976710656 }
     ensures { result ≡ plan.reads_on range capability.now from mark }
@@ -100,7 +101,7 @@ fn reads_on(range: Option<(u64, u64)>, capability: &Capability, from: u64, mark:
     from < end_in(range) && (from == first_in(range) || from < mark.size) && object < END_OF_OBJECTS
 }
 
-/// Writes what came, and asks for the piece at this place where it is due.
+/// `get` writes these bytes, and then asks for the piece at byte `from`, or is done.
 fn read_on(
     alloc: Global,
     range: Option<(u64, u64)>,
@@ -130,7 +131,7 @@ fn read_on(
     Ok(ends_with(Octets::from(text)))
 }
 
-/// A capability was granted.
+/// A capability was granted: `put` takes its first piece, `get` asks for its first one, `truncate` truncates.
 fn granted_to(
     alloc: Global,
     order: &Order,
@@ -159,7 +160,7 @@ fn granted_to(
     }
 }
 
-/// A piece was written.
+/// A piece was written: `put` goes on with the next one.
 fn written(alloc: Global, order: &Order, capability: &Capability, mark: SizeMark) -> Goes
     ensures { result ≡ plan.written order.now capability.now mark }
 {
@@ -169,7 +170,7 @@ fn written(alloc: Global, order: &Order, capability: &Capability, mark: SizeMark
     }
 }
 
-/// A piece was read.
+/// A piece was read: `get` writes it, and goes on with the next one.
 fn was_read(
     alloc: Global,
     order: &Order,
@@ -199,7 +200,7 @@ fn was_read(
     }
 }
 
-/// An operation on a file was done.
+/// An operation on a file's bytes succeeded, and showed this mark of its size.
 fn done_at(
     alloc: Global,
     order: &Order,
@@ -243,7 +244,7 @@ fn last_of(alloc: Global, names: &[Name]) -> Result<Name, OutOfMemory>
     }
 }
 
-/// Names of a directory came.
+/// A page of names came: they are written, and the next page is asked for where this one is full.
 fn names_told(alloc: Global, names: &[Name]) -> Result<Goes, OutOfMemory>
     ensures { IfOk result (λ goes. goes ≡ plan.names_told names.now) }
 {
@@ -258,7 +259,7 @@ fn names_told(alloc: Global, names: &[Name]) -> Result<Goes, OutOfMemory>
     })
 }
 
-/// What is written once a file's size was reported.
+/// What is written once a file's size was reported: by `put` the size in bytes, else nothing.
 fn size_told(alloc: Global, order: &Order, mark: SizeMark) -> Result<Octets, OutOfMemory>
     ensures { IfOk result (λ text. text ≡ plan.size_told order.now mark) }
 {
@@ -268,7 +269,7 @@ fn size_told(alloc: Global, order: &Order, mark: SizeMark) -> Result<Octets, Out
     }
 }
 
-/// A file was to be made.
+/// The answer to the creation of a file. One that exists already is written to as well.
 fn created(alloc: Global, answer: &MetaAnswer) -> Goes
     ensures { result ≡ plan.created answer.now }
 {
@@ -281,7 +282,7 @@ fn created(alloc: Global, answer: &MetaAnswer) -> Goes
     }
 }
 
-/// A capability was asked for.
+/// The answer to the request for a capability.
 fn granted(alloc: Global, order: &Order, answer: &MetaAnswer) -> Result<Goes, OutOfMemory>
     requires { end_of order.now ≤ 281474976710656 }
     ensures { IfOk result (λ goes. goes ≡ plan.granted order.now answer.now) }
@@ -292,7 +293,7 @@ fn granted(alloc: Global, order: &Order, answer: &MetaAnswer) -> Result<Goes, Ou
     }
 }
 
-/// Names were asked for.
+/// The answer to the request for a page of names.
 fn listed(alloc: Global, answer: &MetaAnswer) -> Result<Goes, OutOfMemory>
     ensures { IfOk result (λ goes. goes ≡ plan.listed answer.now) }
 {
@@ -302,7 +303,7 @@ fn listed(alloc: Global, answer: &MetaAnswer) -> Result<Goes, OutOfMemory>
     }
 }
 
-/// A size was reported.
+/// The answer to the report of a file's size, after which the command is done.
 fn reported(
     alloc: Global,
     order: &Order,
@@ -317,7 +318,7 @@ fn reported(
     }
 }
 
-/// The one metadata call of a command was answered.
+/// The answer to the only request of a metadata command, which is done: a row is written.
 fn shown(alloc: Global, answer: &MetaAnswer) -> Result<Goes, OutOfMemory>
     ensures { IfOk result (λ goes. goes ≡ plan.shown answer.now) }
 {
@@ -333,7 +334,7 @@ fn shown(alloc: Global, answer: &MetaAnswer) -> Result<Goes, OutOfMemory>
     }
 }
 
-/// The MRC answered, and refused nothing.
+/// An answer of the MRC that refuses nothing, by the stage that asked.
 fn accepted(
     alloc: Global,
     order: &Order,
@@ -353,7 +354,7 @@ fn accepted(
     }
 }
 
-/// The MRC answered something else than a creation.
+/// An answer of the MRC to anything but a creation. A refusal ends the command.
 fn unless_refused(
     alloc: Global,
     order: &Order,
@@ -370,7 +371,7 @@ fn unless_refused(
     }
 }
 
-/// The MRC answered.
+/// An answer of the MRC, by the stage that asked.
 fn answered(
     alloc: Global,
     order: &Order,
@@ -387,7 +388,7 @@ fn answered(
     }
 }
 
-/// The node of the last of these rows.
+/// The node of the last row, `NOBODY` where there is none.
 fn last_node(rows: &[RegistryRow]) -> NodeId
     ensures { result ≡ plan.last_node rows.now }
 {
@@ -397,7 +398,7 @@ fn last_node(rows: &[RegistryRow]) -> NodeId
     }
 }
 
-/// Rows of a kind came.
+/// A page of rows came. After the last page of kind 2 (the MRC) those of kind 1 (OSDs) are asked for, and after these the command begins.
 fn rows_told(
     alloc: Global,
     order: &Order,
@@ -422,7 +423,7 @@ fn rows_told(
     }
 }
 
-/// The version of a row, and 0 where it isn't there.
+/// The version of the row in an answer, 0 where there is no row.
 fn version_told(answer: &RegistryAnswer) -> u64
     ensures { result ≡ plan.version_told answer.now }
 {
@@ -432,7 +433,7 @@ fn version_told(answer: &RegistryAnswer) -> u64
     }
 }
 
-/// Rows were asked for.
+/// The answer to the request for a page of rows.
 fn rows_listed(
     alloc: Global,
     order: &Order,
@@ -450,7 +451,7 @@ fn rows_listed(
     }
 }
 
-/// A row was to be set.
+/// The answer to the setting of a row.
 fn row_set(alloc: Global, answer: &RegistryAnswer) -> Goes
     ensures { result ≡ plan.row_set answer.now }
 {
@@ -463,7 +464,7 @@ fn row_set(alloc: Global, answer: &RegistryAnswer) -> Goes
     }
 }
 
-/// The DIR answered.
+/// An answer of the DIR, by the stage that asked.
 fn registered(
     alloc: Global,
     order: &Order,

@@ -1,7 +1,7 @@
 //! A command of a session, from its start to its end, and the lists with which commands begin alone.
 ghost use Rattle.std.specs.Prelude.{◌≡◌, ◌≤◌, ℕ};
 ghost use Rattle.client_plans.specs.Plans.{end_of};
-ghost use Rattle.client_jobs.specs.Running.{put_in, client_of, CanAsk};
+ghost use Rattle.client_jobs.specs.Running.{put_in, client_of, CanAsk, around_of, counts_of};
 ghost use Rattle.client_jobs.specs.Lines as spec;
 ghost use Rattle.client_jobs.specs.Lines.{IsLine, IsListed};
 
@@ -39,29 +39,11 @@ pub fn run_line<K: Sink, L: Link, C: Clock>(
     requires range { end_of job.now.order ≤ 281474976710656 }
     requires content { put_in job.now.order ≡ Some None → ⊥ }
     ensures { (source : ℕ) → IsLine job.now session.old session.new
-        (record {
-          to_come = L.given link.old;
-          sent = L.sent link.old;
-          losses = L.loss_count link.old;
-          to_read = C.readings clock.old;
-        })
-        (record {
-          to_come = L.given link.new;
-          sent = L.sent link.new;
-          losses = L.loss_count link.new;
-          to_read = C.readings clock.new;
-        })
+        (around_of L.given L.sent L.loss_count C.readings link.old clock.old)
+        (around_of L.given L.sent L.loss_count C.readings link.new clock.new)
         (K.held out.old) (K.held out.new) (K.fault_count out.old) (K.fault_count out.new)
-        (record {
-          link = L.fault_count link.old;
-          clock = C.fault_count clock.old;
-          source = source;
-        })
-        (record {
-          link = L.fault_count link.new;
-          clock = C.fault_count clock.new;
-          source = source;
-        })
+        (counts_of (L.fault_count link.old) (C.fault_count clock.old) source)
+        (counts_of (L.fault_count link.new) (C.fault_count clock.new) source)
         result }
 {
     let Ok(reading) = clock.now() else {
@@ -106,28 +88,10 @@ pub fn run_lists<L: Link, C: Clock>(
     clock: &mut C,
 ) -> Status
     ensures { (source : ℕ) → IsListed base.now session.old session.new
-        (record {
-          to_come = L.given link.old;
-          sent = L.sent link.old;
-          losses = L.loss_count link.old;
-          to_read = C.readings clock.old;
-        })
-        (record {
-          to_come = L.given link.new;
-          sent = L.sent link.new;
-          losses = L.loss_count link.new;
-          to_read = C.readings clock.new;
-        })
-        (record {
-          link = L.fault_count link.old;
-          clock = C.fault_count clock.old;
-          source = source;
-        })
-        (record {
-          link = L.fault_count link.new;
-          clock = C.fault_count clock.new;
-          source = source;
-        })
+        (around_of L.given L.sent L.loss_count C.readings link.old clock.old)
+        (around_of L.given L.sent L.loss_count C.readings link.new clock.new)
+        (counts_of (L.fault_count link.old) (C.fault_count clock.old) source)
+        (counts_of (L.fault_count link.new) (C.fault_count clock.new) source)
         result }
 {
     let job = lists_alone(base);

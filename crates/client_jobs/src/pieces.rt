@@ -37,7 +37,7 @@ pub fn place_of(stripe: u32, from: u64) -> (u64, u32)
     (from / stripe, (from % stripe) as u32)
 }
 
-/// Where a range begins.
+/// The first byte of a range, 0 where none is named.
 pub fn first_in(range: Option<(u64, u64)>) -> u64
     ensures { result ≡ first_in range }
 {
@@ -47,7 +47,7 @@ pub fn first_in(range: Option<(u64, u64)>) -> u64
     }
 }
 
-/// Where a range ends.
+/// The place after a range, `FILE_END` where none is named.
 pub fn end_in(range: Option<(u64, u64)>) -> u64
     requires { end_in range ≤ 281474976710656 }
     ensures { result ≡ end_in range }

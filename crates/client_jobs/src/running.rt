@@ -7,7 +7,7 @@ ghost use Rattle.client_jobs.specs.Content.{pattern_from, HasReadCause};
 ghost use Rattle.client_jobs.specs.Running as spec;
 ghost use Rattle.client_loop.specs.Carrying.{Around};
 ghost use Rattle.client_jobs.specs.Lines.{bytes_put};
-ghost use Rattle.client_jobs.specs.Running.{Command, CommandState, Runs, IsPlanned, HasWhy, first_number, driver_of, client_of, AreAll, command_of, call_in, CannotCall, HasCalled, HasStepped, HasAdvanced, Ends, HasAdvanceCause, has_last_line, Closes, CanAsk, GoesOn, Begins, IsClientJob, HasWorked, starts_in, IsEarly, CannotTake};
+ghost use Rattle.client_jobs.specs.Running.{Command, CommandState, Runs, IsPlanned, HasWhy, first_number, driver_of, client_of, AreAll, command_of, call_in, CannotCall, HasCalled, HasStepped, HasAdvanced, Ends, HasAdvanceCause, has_last_line, Closes, CanAsk, GoesOn, Begins, IsClientJob, IsEarly, CannotTake, around_of, counts_of, outside_of, WorksOver};
 
 use crate::asking::operation_of;
 use crate::content::{PatternPieces, ReadErr, SourcePieces};
@@ -25,7 +25,7 @@ use std::alloc::Global;
 use xt_base::{Address, Boot, COUNTS, NodeId, Octets};
 use xt_messages::{Call, Limited, Status};
 
-/// What an operation came to.
+/// What became of an operation.
 #[derive(Drop)]
 pub enum Advanced {
     /// The command is at this stage now.
@@ -80,8 +80,7 @@ fn unread(error: ReadErr) -> Status
     ensures cannot { (wish : Order) (room : ℕ) → spec.put_in wish ≡ Some None → 1 ≤ room →
         CannotTake wish room result }
     ensures cause { (link clock : ℕ) (before later : ℕ) → HasReadCause before later error →
-        HasWhy (record { link = link; clock = clock; source = before })
-        (record { link = link; clock = clock; source = later }) result }
+        HasWhy (counts_of link clock before) (counts_of link clock later) result }
 {
     match error {
         ReadErr::Failed { count } => Status::SourceFault { count },
@@ -156,16 +155,8 @@ fn opened<L: Link, C: Clock>(
         C.fault_count clock.new ≡ C.fault_count clock.old) }
     ensures early { IfErr result IsEarly }
     ensures cause { (source : ℕ) → IfErr result (HasWhy
-        (record {
-          link = L.fault_count link.old;
-          clock = C.fault_count clock.old;
-          source = source;
-        })
-        (record {
-          link = L.fault_count link.new;
-          clock = C.fault_count clock.new;
-          source = source;
-        })) }
+        (counts_of (L.fault_count link.old) (C.fault_count clock.old) source)
+        (counts_of (L.fault_count link.new) (C.fault_count clock.new) source)) }
 {
     if link.bind(own_address(dir)).is_err() {
         return Err(Status::LinkFault {
@@ -180,7 +171,7 @@ fn opened<L: Link, C: Clock>(
     Ok(reading)
 }
 
-/// Takes an address for the link, and reads the clock.
+/// Begins a command: the link takes an address, the clock is read once, and a session is made for the command alone.
 fn begin<L: Link, C: Clock>(
     alloc: Global,
     job: &ClientJob,
@@ -198,16 +189,8 @@ fn begin<L: Link, C: Clock>(
         × (C.fault_count clock.new ≡ C.fault_count clock.old)) }
     ensures early { IfErr result IsEarly }
     ensures cause { (source : ℕ) → IfErr result (HasWhy
-        (record {
-          link = L.fault_count link.old;
-          clock = C.fault_count clock.old;
-          source = source;
-        })
-        (record {
-          link = L.fault_count link.new;
-          clock = C.fault_count clock.new;
-          source = source;
-        })) }
+        (counts_of (L.fault_count link.old) (C.fault_count clock.old) source)
+        (counts_of (L.fault_count link.new) (C.fault_count clock.new) source)) }
 {
     let reading = match opened(&job.dir, link, clock) {
         Ok(reading) => reading,
@@ -219,7 +202,7 @@ fn begin<L: Link, C: Clock>(
     }
 }
 
-/// Carries a call out.
+/// Carries a call out over the link, by the clock, with so many tries at most. At `Ok` the client has its result.
 fn operate<L: Link, C: Clock>(
     session: &mut CommandSession,
     call: &Call,
@@ -231,44 +214,16 @@ fn operate<L: Link, C: Clock>(
     ensures asks { IfOk result (λ done. CanAsk session.new.client) }
     ensures turns { session.new.driver.listener.turns ≡ session.old.driver.listener.turns }
     ensures called { IfOk result (λ done. HasCalled (call_in session.old call.now tries)
-        (record {
-          to_come = L.given link.old;
-          sent = L.sent link.old;
-          losses = L.loss_count link.old;
-          to_read = C.readings clock.old;
-        })
-        (record {
-          to_come = L.given link.new;
-          sent = L.sent link.new;
-          losses = L.loss_count link.new;
-          to_read = C.readings clock.new;
-        })
+        (around_of L.given L.sent L.loss_count C.readings link.old clock.old)
+        (around_of L.given L.sent L.loss_count C.readings link.new clock.new)
         session.new) }
     ensures cannot { IfErr result (CannotCall (call_in session.old call.now tries)
-        (record {
-          to_come = L.given link.old;
-          sent = L.sent link.old;
-          losses = L.loss_count link.old;
-          to_read = C.readings clock.old;
-        })
-        (record {
-          to_come = L.given link.new;
-          sent = L.sent link.new;
-          losses = L.loss_count link.new;
-          to_read = C.readings clock.new;
-        })
+        (around_of L.given L.sent L.loss_count C.readings link.old clock.old)
+        (around_of L.given L.sent L.loss_count C.readings link.new clock.new)
         session.new) }
     ensures cause { (source : ℕ) → IfErr result (HasWhy
-        (record {
-          link = L.fault_count link.old;
-          clock = C.fault_count clock.old;
-          source = source;
-        })
-        (record {
-          link = L.fault_count link.new;
-          clock = C.fault_count clock.new;
-          source = source;
-        })) }
+        (counts_of (L.fault_count link.old) (C.fault_count clock.old) source)
+        (counts_of (L.fault_count link.new) (C.fault_count clock.new) source)) }
     ensures sound { IfOk result (λ done. (L.fault_count link.new ≡ L.fault_count link.old)
         × (C.fault_count clock.new ≡ C.fault_count clock.old)) }
 {
@@ -298,30 +253,12 @@ pub(crate) fn step<L: Link, C: Clock>(
     ensures asks { IfOk result (λ goes. CanAsk session.new.client) }
     ensures turns { session.new.driver.listener.turns ≡ session.old.driver.listener.turns }
     ensures stepped { HasStepped (command_of job.now)
-        (record {
-          to_come = L.given link.old;
-          sent = L.sent link.old;
-          losses = L.loss_count link.old;
-          to_read = C.readings clock.old;
-        })
-        (record {
-          to_come = L.given link.new;
-          sent = L.sent link.new;
-          losses = L.loss_count link.new;
-          to_read = C.readings clock.new;
-        })
+        (around_of L.given L.sent L.loss_count C.readings link.old clock.old)
+        (around_of L.given L.sent L.loss_count C.readings link.new clock.new)
         (record { session = session.old; stage = stage.now }) session.new result }
     ensures cause { (source : ℕ) → IfErr result (HasWhy
-        (record {
-          link = L.fault_count link.old;
-          clock = C.fault_count clock.old;
-          source = source;
-        })
-        (record {
-          link = L.fault_count link.new;
-          clock = C.fault_count clock.new;
-          source = source;
-        })) }
+        (counts_of (L.fault_count link.old) (C.fault_count clock.old) source)
+        (counts_of (L.fault_count link.new) (C.fault_count clock.new) source)) }
     ensures sound { IfOk result (λ goes. (L.fault_count link.new ≡ L.fault_count link.old)
         × (C.fault_count clock.new ≡ C.fault_count clock.old)) }
 {
@@ -353,8 +290,8 @@ fn has_last_line(status: &Status) -> bool
     }
 }
 
-/// Puts the last line of a status, and gives the status, or the one that came of the putting. A command that is done has no last line,
-/// and none is put where the sink failed.
+/// Writes the last line of a status, and returns the status, or that of a failure in writing it. A command that is done has no last line,
+/// and none is written where the sink failed.
 pub fn close<K: Sink>(alloc: Global, out: &mut K, status: Status) -> Status
     ensures { Closes (K.held out.old) (K.held out.new) (K.fault_count out.old)
         (K.fault_count out.new) status result }
@@ -380,31 +317,13 @@ fn advance<K: Sink, L: Link, C: Clock>(
     ensures asks { GoesOn result → CanAsk session.new.client }
     ensures turns { session.new.driver.listener.turns ≡ session.old.driver.listener.turns }
     ensures advanced { HasAdvanced (command_of job.now)
-        (record {
-          to_come = L.given link.old;
-          sent = L.sent link.old;
-          losses = L.loss_count link.old;
-          to_read = C.readings clock.old;
-        })
-        (record {
-          to_come = L.given link.new;
-          sent = L.sent link.new;
-          losses = L.loss_count link.new;
-          to_read = C.readings clock.new;
-        })
+        (around_of L.given L.sent L.loss_count C.readings link.old clock.old)
+        (around_of L.given L.sent L.loss_count C.readings link.new clock.new)
         (record { session = session.old; stage = stage.now }) (K.held out.old) (K.held out.new)
         session.new result }
     ensures cause { (source : ℕ) → HasAdvanceCause
-        (record {
-          link = L.fault_count link.old;
-          clock = C.fault_count clock.old;
-          source = source;
-        })
-        (record {
-          link = L.fault_count link.new;
-          clock = C.fault_count clock.new;
-          source = source;
-        })
+        (counts_of (L.fault_count link.old) (C.fault_count clock.old) source)
+        (counts_of (L.fault_count link.new) (C.fault_count clock.new) source)
         (K.fault_count out.old) (K.fault_count out.new) result }
 {
     let goes = match step(alloc, job, session, stage, link, clock) {
@@ -433,32 +352,12 @@ pub(crate) fn work<K: Sink, L: Link, C: Clock>(
     requires asks { CanAsk session.old.client }
     ensures turns { session.new.driver.listener.turns ≡ session.old.driver.listener.turns }
     ensures worked { (source : ℕ) → (taken : ℕ)
-        × HasWorked (command_of job.now) (bytes_put (spec.put_in job.now.order))
-        (record {
-          to_come = L.given link.old;
-          sent = L.sent link.old;
-          losses = L.loss_count link.old;
-          to_read = C.readings clock.old;
-        })
-        (record {
-          to_come = L.given link.new;
-          sent = L.sent link.new;
-          losses = L.loss_count link.new;
-          to_read = C.readings clock.new;
-        })
-        (starts_in job.now session.old) session.new (K.held out.old) (K.held out.new)
-        (K.fault_count out.old) (K.fault_count out.new)
-        (record {
-          link = L.fault_count link.old;
-          clock = C.fault_count clock.old;
-          source = source;
-        })
-        (record {
-          link = L.fault_count link.new;
-          clock = C.fault_count clock.new;
-          source = source;
-        })
-        taken result }
+        × WorksOver job.now (bytes_put (spec.put_in job.now.order)) session.old session.new
+        (outside_of K.held K.fault_count L.given L.sent L.loss_count L.fault_count C.readings
+        C.fault_count out.old link.old clock.old)
+        (outside_of K.held K.fault_count L.given L.sent L.loss_count L.fault_count C.readings
+        C.fault_count out.new link.new clock.new)
+        source source taken result }
 {
     let mut pieces = PatternPieces::new(pattern_size(&job.order));
     let mut stage = begins(&job.order);
@@ -492,32 +391,12 @@ fn work_from<S: Source, K: Sink, L: Link, C: Clock>(
     requires asks { CanAsk session.old.client }
     ensures { (bytes : List ℕ) × (taken : ℕ) × AreAll (S.left src.old) bytes
         × Takes (S.left src.old) (S.left src.new) (take taken bytes)
-        × HasWorked (command_of job.now) bytes
-        (record {
-          to_come = L.given link.old;
-          sent = L.sent link.old;
-          losses = L.loss_count link.old;
-          to_read = C.readings clock.old;
-        })
-        (record {
-          to_come = L.given link.new;
-          sent = L.sent link.new;
-          losses = L.loss_count link.new;
-          to_read = C.readings clock.new;
-        })
-        (starts_in job.now session.old) session.new (K.held out.old) (K.held out.new)
-        (K.fault_count out.old) (K.fault_count out.new)
-        (record {
-          link = L.fault_count link.old;
-          clock = C.fault_count clock.old;
-          source = S.fault_count src.old;
-        })
-        (record {
-          link = L.fault_count link.new;
-          clock = C.fault_count clock.new;
-          source = S.fault_count src.new;
-        })
-        taken result }
+        × WorksOver job.now bytes session.old session.new
+        (outside_of K.held K.fault_count L.given L.sent L.loss_count L.fault_count C.readings
+        C.fault_count out.old link.old clock.old)
+        (outside_of K.held K.fault_count L.given L.sent L.loss_count L.fault_count C.readings
+        C.fault_count out.new link.new clock.new)
+        (S.fault_count src.old) (S.fault_count src.new) taken result }
 {
     let mut pieces = SourcePieces::new();
     let mut stage = begins(&job.order);
@@ -550,29 +429,11 @@ pub(crate) fn work_quietly<L: Link, C: Clock>(
     requires range { end_of job.now.order ≤ 281474976710656 }
     requires asks { CanAsk session.old.client }
     ensures { (source : ℕ) → (taken : ℕ) × (text : List ℕ) × Ends (command_of job.now) []
-        (record {
-          to_come = L.given link.old;
-          sent = L.sent link.old;
-          losses = L.loss_count link.old;
-          to_read = C.readings clock.old;
-        })
-        (record {
-          to_come = L.given link.new;
-          sent = L.sent link.new;
-          losses = L.loss_count link.new;
-          to_read = C.readings clock.new;
-        })
+        (around_of L.given L.sent L.loss_count C.readings link.old clock.old)
+        (around_of L.given L.sent L.loss_count C.readings link.new clock.new)
         (record { session = session.old; stage = first }) session.new
-        (record {
-          link = L.fault_count link.old;
-          clock = C.fault_count clock.old;
-          source = source;
-        })
-        (record {
-          link = L.fault_count link.new;
-          clock = C.fault_count clock.new;
-          source = source;
-        })
+        (counts_of (L.fault_count link.old) (C.fault_count clock.old) source)
+        (counts_of (L.fault_count link.new) (C.fault_count clock.new) source)
         result taken text }
 {
     let mut stage = first;
@@ -611,30 +472,12 @@ pub fn run_client<S: Source, K: Sink, L: Link, C: Clock>(
     requires turns { job.now.settings.turns < 2 ^ 62 }
     requires range { end_of job.now.order ≤ 281474976710656 }
     ensures { IsClientJob job.now
-        (record {
-          to_come = L.given link.old;
-          sent = L.sent link.old;
-          losses = L.loss_count link.old;
-          to_read = C.readings clock.old;
-        })
-        (record {
-          to_come = L.given link.new;
-          sent = L.sent link.new;
-          losses = L.loss_count link.new;
-          to_read = C.readings clock.new;
-        })
+        (around_of L.given L.sent L.loss_count C.readings link.old clock.old)
+        (around_of L.given L.sent L.loss_count C.readings link.new clock.new)
         (S.left src.old) (S.left src.new) (K.held out.old) (K.held out.new)
         (K.fault_count out.old) (K.fault_count out.new)
-        (record {
-          link = L.fault_count link.old;
-          clock = C.fault_count clock.old;
-          source = S.fault_count src.old;
-        })
-        (record {
-          link = L.fault_count link.new;
-          clock = C.fault_count clock.new;
-          source = S.fault_count src.new;
-        })
+        (counts_of (L.fault_count link.old) (C.fault_count clock.old) (S.fault_count src.old))
+        (counts_of (L.fault_count link.new) (C.fault_count clock.new) (S.fault_count src.new))
         result }
 {
     let mut session = match begin(alloc, job, link, clock) {
@@ -648,7 +491,7 @@ pub fn run_client<S: Source, K: Sink, L: Link, C: Clock>(
     }
 }
 
-/// What a command does is its plan: by the results of its operations the plan comes to where the command is, and to what it writes.
+/// A command keeps to its plan: the results of its operations take the plan to the stage where the command is, and to what it writes.
 pub fn commands_keep_their_plans()
     ensures { (c : Command) (bytes : List ℕ) (from now : Around) (start s : CommandState)
         (count taken : ℕ) (text : List ℕ) → Runs c bytes from start count now s taken text →

@@ -7,7 +7,7 @@ use std::alloc::Global;
 use xt_base::{Name, Octets, OutOfMemory, SizeMark};
 use xt_messages::RowKind;
 
-/// The digit of a number below 16.
+/// The lower-case hex digit of a number below 16.
 fn hex_digit(number: u8) -> u8
     requires { number < 16 }
     ensures { result ≡ hex_digit number }
@@ -28,7 +28,7 @@ fn push_byte(out: &mut Vec<u8>, byte: u8) -> Result<(), OutOfMemory>
     Ok(())
 }
 
-/// Bytes in hex.
+/// Bytes in lower-case hex, two digits each.
 fn hex_text(alloc: Global, bytes: &[u8]) -> Result<Vec<u8>, OutOfMemory>
     ensures { IfOk result (λ text. text.items ≡ hex_text bytes.now) }
 {
@@ -69,7 +69,7 @@ fn push_bytes(out: &mut Vec<u8>, bytes: &[u8]) -> Result<(), OutOfMemory>
     Ok(())
 }
 
-/// Appends a number.
+/// Appends a number in decimal.
 fn push_number(alloc: Global, out: &mut Vec<u8>, number: u64) -> Result<(), OutOfMemory>
     ensures { OnOk result (out.new.items ≡ out.old.items ++ decimal number) }
 {
@@ -77,7 +77,7 @@ fn push_number(alloc: Global, out: &mut Vec<u8>, number: u64) -> Result<(), OutO
     push_bytes(out, digits.as_str().as_bytes())
 }
 
-/// Appends a space and a number.
+/// Appends a space and a number in decimal.
 fn push_spaced(alloc: Global, out: &mut Vec<u8>, number: u64) -> Result<(), OutOfMemory>
     ensures { OnOk result (out.new.items ≡ out.old.items ++ 32 ∷ decimal number) }
 {
@@ -100,7 +100,7 @@ fn push_mode(out: &mut Vec<u8>, mode: u16) -> Result<(), OutOfMemory>
     )
 }
 
-/// The word of a kind of row.
+/// The word for a kind of row: `dir` or `file`.
 fn row_word(kind: RowKind) -> &'static [u8]
     ensures { result.now ≡ row_word kind }
 {
@@ -120,7 +120,7 @@ fn row_mark(kind: RowKind, mark: SizeMark) -> SizeMark
     }
 }
 
-/// The line of a row.
+/// The line that shows a row: its kind, owner, group, mode in octal, epoch and size in bytes.
 pub fn row_line(
     alloc: Global,
     kind: RowKind,
@@ -143,7 +143,7 @@ pub fn row_line(
     Ok(Octets::from(line))
 }
 
-/// A number in a line.
+/// A line with a number in decimal.
 pub fn number_line(alloc: Global, number: u64) -> Result<Octets, OutOfMemory>
     ensures { IfOk result (λ line. line ≡ decimal number ++ 10 ∷ []) }
 {
@@ -162,7 +162,7 @@ fn push_name(out: &mut Vec<u8>, name: &Name) -> Result<(), OutOfMemory>
     Ok(())
 }
 
-/// A line a name.
+/// One line for each name.
 pub fn lines_of(alloc: Global, names: &[Name]) -> Result<Octets, OutOfMemory>
     ensures { IfOk result (λ text. text ≡ lines_of names.now) }
 {

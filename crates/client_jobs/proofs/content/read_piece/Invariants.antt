@@ -11,6 +11,6 @@ invariant-loop-bytes g l =
       sound : g.S.Source.fault_count l.src ≡ g.S.Source.fault_count l.fn.src;
     }
 
--- how many bytes may still come
+-- how many bytes can still come
 abbrev pub decreases-loop-bytes : goal.decreases-loop-bytes
 decreases-loop-bytes g l = l.room - length l.bytes.items
