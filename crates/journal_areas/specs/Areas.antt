@@ -49,7 +49,8 @@ abbrev pub Reached : Option Superblock → List ℕ → List (List ℕ) → List
 Reached None bytes payloads rest = IsPlain bytes payloads rest
 Reached (Some s) bytes payloads rest = IsUnmoved bytes s payloads rest ⊎ IsMoved bytes s payloads rest
 
--- the place of the gate to which reading comes with these payloads, past this superblock or none
+-- The place of the gate to which reading comes with these payloads, past this superblock or none. Where no slot counts, the header (12
+-- bytes) and the superblock's record with its gate (1 + 4 + 51) come before it too.
 abbrev pub end_by : Superblock → Option Slot → List (List ℕ) → ℕ
 end_by s None payloads = 68 + length (records payloads)
 end_by s (Some slot) payloads = slot.place + length (records payloads)

@@ -2,7 +2,10 @@ ghost use Rattle.std.specs.Prelude.{◌≡◌, ◌≤◌, ◌<◌, ◌+◌, ◌^
 ghost use Rattle.journal_areas.specs.Sites.{area_of, area_by, number_after, fits_below, site, need_for};
 ghost use Rattle.journal_areas.specs.Superblocks.{base_of, current};
 
-use crate::superblock::{Slot, Superblock};
+use crate::superblock::{BASE, Slot, Superblock};
+
+/// The place of a journal's first gate: after its sign (8 bytes) and its layout (4).
+const FIRST_GATE: u64 = 8 + 4;
 
 /// An area of a journal.
 #[derive(Clone, Copy)]
@@ -32,8 +35,8 @@ pub fn area_of(slot: &Option<Slot>, end: u64) -> Area
 {
     match slot {
         None => Area {
-            place: 12,
-            length: end + 1 - 12,
+            place: FIRST_GATE,
+            length: end + 1 - FIRST_GATE,
             first: 0,
         },
         Some(slot) => Area {
@@ -75,7 +78,7 @@ fn is_below(superblock: &Superblock, size: u64) -> bool
 {
     match superblock.current() {
         None => false,
-        Some(slot) => match site_after(superblock.gate, 57, size) {
+        Some(slot) => match site_after(superblock.gate, BASE, size) {
             None => false,
             Some(site) => site.need <= slot.place,
         },
@@ -89,10 +92,10 @@ pub fn site_of(superblock: &Option<Superblock>, end: u64, size: u64) -> Option<S
         (λ s. (s.place ≡ site superblock.now end size) × (s.need ≡ need_for superblock.now end size)) }
 {
     match superblock {
-        None => site_after(end, 57, size),
+        None => site_after(end, BASE, size),
         Some(superblock) => {
             if is_below(superblock, size) {
-                site_after(superblock.gate, 57, size)
+                site_after(superblock.gate, BASE, size)
             } else {
                 site_after(end, 1, size)
             }

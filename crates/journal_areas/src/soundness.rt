@@ -2,7 +2,7 @@
 ghost use Rattle.std.specs.Prelude.{◌↔◌, ◌≤◌, ◌≡◌, ◌≢◌, IsTrue};
 ghost use Rattle.journal_areas.specs.Superblocks.{base_of, IsOpen, IsSite, IsSound};
 
-use crate::superblock::{Slot, Superblock};
+use crate::superblock::{BASE, Slot, Superblock};
 use disk_model::OPEN_GATE;
 
 /// Whether an open slot's area may begin where it says: at the base or after it, and inside a journal of so many bytes.
@@ -10,7 +10,7 @@ fn is_placed(superblock: &Superblock, size: u64, slot: &Slot) -> bool
     requires { base_of superblock.now ≤ size }
     ensures { IsTrue result ↔ (IsOpen slot.now → IsSite superblock.now size slot.now) }
 {
-    slot.gate != OPEN_GATE || (superblock.gate + 57 <= slot.place && slot.place < size)
+    slot.gate != OPEN_GATE || (superblock.gate + BASE <= slot.place && slot.place < size)
 }
 
 /// Whether two slots aren't both open with one number.

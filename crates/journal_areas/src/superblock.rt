@@ -5,6 +5,21 @@ ghost use Rattle.journal_areas.specs.Superblocks.{current, slot_in, superblock_i
 use byteorder::{BigEndian, ByteOrder};
 use disk_model::OPEN_GATE;
 
+/// The bytes of a slot: its gate (1), and three numbers (8 each).
+const SLOT: usize = 1 + 3 * 8;
+
+/// The bytes of a superblock's payload: its kind (1), and two slots.
+const PAYLOAD: usize = 1 + 2 * SLOT;
+
+/// How many bytes a superblock's first slot is after its record's gate: that gate (1), the payload's length (4), and the kind (1).
+const FIRST_SLOT: u64 = 1 + 4 + 1;
+
+/// How many bytes its second slot is after that gate.
+const SECOND_SLOT: u64 = FIRST_SLOT + SLOT as u64;
+
+/// How many bytes its base is after that gate: the gate (1), the length (4), the payload, and the next record's gate (1).
+pub(crate) const BASE: u64 = 1 + 4 + PAYLOAD as u64 + 1;
+
 /// Where an area is, as one half of a superblock says.
 #[derive(Clone, Copy)]
 pub struct Slot {
@@ -49,7 +64,7 @@ impl Superblock {
         Superblock {
             gate,
             one: slot_in(&payload[1..]),
-            two: slot_in(&payload[26..]),
+            two: slot_in(&payload[1 + SLOT..]),
         }
     }
 
@@ -73,7 +88,7 @@ impl Superblock {
         requires { self.now.gate + 57 ≤ 2 ^ 64 }
         ensures { result ≡ slot_place second self.now.gate }
     {
-        self.gate + if second { 31 } else { 6 }
+        self.gate + if second { SECOND_SLOT } else { FIRST_SLOT }
     }
 
     /// The superblock with this in one of its slots.
