@@ -14,7 +14,7 @@ use std::alloc::Global;
 /// The first byte of a superblock's payload.
 const SUPERBLOCK: u8 = 8;
 
-/// How long a superblock's payload is.
+/// The bytes of a superblock's payload: its kind (1), and two slots of 25.
 const SUPERBLOCK_SIZE: usize = 51;
 
 /// How far reading has come.
@@ -84,7 +84,7 @@ fn walk(alloc: Global, bytes: &[u8]) -> Result<Gates, Trouble>
                     superblock = Some(met);
                     match met.current() {
                         None => {
-                            end += 56;
+                            end += 5 + SUPERBLOCK_SIZE as u64;
                             rest = later;
                         }
                         Some(slot) => {
