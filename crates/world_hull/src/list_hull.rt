@@ -121,8 +121,7 @@ impl Hull for ListHull {
 
     ghost past = { past_of };
 
-    ghost room = {
-        record { overflow = λ _ _. None; rewrites_now = λ _ _. false; rewrites_idle = λ _ _ _ _. false } };
+    ghost room = { record { overflow = λ _ _. None; rewrites_now = λ _ _. false; rewrites_idle = λ _ _ _ _. false } };
 
     ghost waits = { λ d id past keep i. false };
 
