@@ -2,7 +2,7 @@
 # Replays a schedule of this folder: its trace is printed.
 #   examples/run.sh [--unproved] [NAME]
 # NAME is write-and-read where none is given. The proved program does it where it is built (`tests/build.sh` builds it).
-# Else, or where that is asked for, the kit runs the same sources with no proof, which takes about a minute. One line on
+# Else, or where that is asked for, the kit runs the same sources with no proof, which takes a few minutes. One line on
 # standard error says which of the two it was. The status is the program's.
 set -u
 here=$(cd "$(dirname "$0")" && pwd)
@@ -26,7 +26,7 @@ fi
 
 said=$(mktemp)
 trap 'rm -f "$said"' EXIT
-echo "run.sh: replayed with no proof, in about a minute (tests/build.sh builds the proved program)" >&2
+echo "run.sh: replayed with no proof, in a few minutes (tests/build.sh builds the proved program)" >&2
 cd "$top/crates/xtfs" || exit 1
 rt try -- replay <"$schedule" 2>"$said"
 status=$?
