@@ -31,6 +31,8 @@ import threading
 import time
 
 PROGRAM, HERE, RUNS, SEED = sys.argv[1], sys.argv[2], int(sys.argv[3]), int(sys.argv[4])
+# a number that was drawn is changed as one again, however many digits it has
+sys.set_int_max_str_digits(0)
 KEPT = tempfile.mkdtemp(prefix="xtfs-found-")
 # A run takes milliseconds; one that takes so many seconds hangs.
 PATIENCE = 20

@@ -9,12 +9,23 @@
 use command_words::help_text;
 use disk_model::FileDisk;
 use node_links::{ChildSpawner, StdinSource, StdoutSink, SystemClock, UdpLink};
+use std::alloc::Global;
 use std::env;
 use std::io::{self, ErrorKind};
 use std::process::ExitCode;
 use xt_base::Words;
 use xt_messages::Status;
 use xtfs_run::run;
+
+/// The length of the piece that is freed at the start, in bytes.
+const FREED: usize = 16 << 20;
+
+/// Has the C library keep what is freed, up to twice that length, for the messages and records of later steps. It gives each piece back to
+/// the system that is larger than the largest one freed so far (128 KiB at first), and gets it again page by page. No page of the piece
+/// that is freed here is ever used.
+fn keep_freed(alloc: Global) {
+    let _ = Vec::<u8>::with_capacity(alloc, FREED);
+}
 
 /// Writes to standard error what the commands are.
 fn help(rt: &HostRuntime) -> io::Result<()> {
@@ -52,6 +63,7 @@ fn read_command_line(rt: &HostRuntime) -> io::Result<CommandLine> {
 
 fn main(rt: HostRuntime) -> ExitCode {
     let alloc = rt.alloc();
+    keep_freed(alloc);
     let (Ok(CommandLine { program, words }), Ok(mut source)) = (
         read_command_line(&rt),
         StdinSource::new(alloc, rt.reader()),
