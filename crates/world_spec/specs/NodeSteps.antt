@@ -46,7 +46,7 @@ pub record Doing : Type 0 where
 
 -- What a hull decides by what was done to the records of a node: whether one more has no room; and whether they are rewritten with
 -- these bodies, after a step that put one, and after a step of this node that put none. The latter may depend on all that was done
--- before. A hull of a replay never does it, a served node does it when it likes.
+-- before. In a replay it is never so; a served node decides it after a Wake.
 pub record Room : Type 0 where
   pub overflow : List Deed → Record → Option Overflow
   pub rewrites_now : List Deed → List KeepBody → Bool
