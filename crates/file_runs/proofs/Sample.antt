@@ -3,13 +3,13 @@ use Rattle.std.proofs.Common.{◌≡◌, ℕ, [], ◌∷◌, refl, inl, inr, ari
 use Rattle.std.specs.Prelude.{suc, zero, ◌<◌, slice_index}
 use Rattle.xt_messages.specs.declared.file.Op.TheVariants as op
 use Rattle.xt_protocol.specs.Asks.{serves_all}
-use Rattle.xt_protocol.specs.AskRows.{refusal_of, ask_handled}
+use Rattle.xt_protocol.specs.AskRows.{refusal_of, handle_ask}
 use Rattle.xt_protocol.specs.Choice.{chosen_of, difference}
 use Rattle.xt_protocol.specs.FileLeases.{read_comes, write_comes, answer_comes}
 use Rattle.xt_protocol.specs.FileSteps.{step_of_file, wake_of_file}
 use Rattle.xt_protocol.specs.Overdue.{expired}
 use Rattle.xt_protocol.specs.Primaries.{peer_in, with_peer, fed}
-use Rattle.xt_protocol.specs.PrimaryRows.{epoch_drawn, hears}
+use Rattle.xt_protocol.specs.PrimaryRows.{draw_epoch, hears}
 use Rattle.xt_protocol.specs.ReplicaRows.{gathered, fetched_from, staged, headed, updated}
 use Rattle.xt_protocol.specs.Serving.{reads, writes, wakes}
 use Rattle.xt_protocol.specs.Writes.{standing}
@@ -37,7 +37,7 @@ itself : (m : ℕ) → Some 1 ≡ Some m → m ≡ 1
 itself m is = cc
 
 pub sample_runs : SampleRuns
-unfolding serves_all refusal_of ask_handled chosen_of difference read_comes write_comes answer_comes step_of_file wake_of_file expired peer_in with_peer fed epoch_drawn hears gathered fetched_from staged headed updated reads writes wakes standing with_held
+unfolding serves_all refusal_of handle_ask chosen_of difference read_comes write_comes answer_comes step_of_file wake_of_file expired peer_in with_peer fed draw_epoch hears gathered fetched_from staged headed updated reads writes wakes standing with_held
 sample_runs = record {
   begins = record {
     stopped = λ r. refl;

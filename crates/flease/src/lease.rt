@@ -196,16 +196,16 @@ fn answered(state: State, now: u64, from: NodeId, payload: &Payload) -> (State, 
 {
     match state {
         State::Free(free) => (State::Free(free), News::Nothing),
-        State::Asking(round) => asking_answered(round, now, from, payload),
-        State::Writing(round) => writing_answered(round, now, from, payload),
+        State::Asking(round) => answer_asking(round, now, from, payload),
+        State::Writing(round) => answer_writing(round, now, from, payload),
         State::Held(held) => held_answered(held, now, from, payload),
     }
 }
 
 /// What an answer makes of a round whose Write isn't sent.
-fn asking_answered(round: Asking, now: u64, from: NodeId, payload: &Payload) -> (State, News)
-    ensures state { shown result.0 ≡ (rows.asking_answered round now from payload.now).state }
-    ensures news { result.1 ≡ shown_news (rows.asking_answered round now from payload.now).news }
+fn answer_asking(round: Asking, now: u64, from: NodeId, payload: &Payload) -> (State, News)
+    ensures state { shown result.0 ≡ (rows.answer_asking round now from payload.now).state }
+    ensures news { result.1 ≡ shown_news (rows.answer_asking round now from payload.now).news }
 {
     match payload {
         Payload::Promise {
@@ -233,10 +233,10 @@ fn asking_answered(round: Asking, now: u64, from: NodeId, payload: &Payload) -> 
 }
 
 /// What an answer makes of a round whose Write is sent.
-fn writing_answered(round: Writing, now: u64, from: NodeId, payload: &Payload) -> (State, News)
+fn answer_writing(round: Writing, now: u64, from: NodeId, payload: &Payload) -> (State, News)
     requires { now < 2 ^ 62 }
-    ensures state { shown result.0 ≡ (rows.writing_answered round now from payload.now).state }
-    ensures news { result.1 ≡ shown_news (rows.writing_answered round now from payload.now).news }
+    ensures state { shown result.0 ≡ (rows.answer_writing round now from payload.now).state }
+    ensures news { result.1 ≡ shown_news (rows.answer_writing round now from payload.now).news }
 {
     match payload {
         Payload::Promise {

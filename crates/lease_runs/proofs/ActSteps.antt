@@ -38,14 +38,14 @@ use Rattle.xt_protocol.specs.ReplicaRows.{gathered, staged, headed, updated, as_
 use Rattle.xt_base.specs.declared.TheConstants.{COUNTS}
 use Rattle.lease_runs.specs.LeaseWorld.{LeaseRow}
 use Rattle.xt_protocol.specs.Primaries.{Led, is_active}
-use Rattle.xt_protocol.specs.PrimaryRows.{epoch_drawn, epoch_above, hears}
+use Rattle.xt_protocol.specs.PrimaryRows.{draw_epoch, epoch_above, hears}
 use Rattle.xt_protocol.specs.Serving.{wakes, wakes_in, wakes_under}
 use Rattle.xt_protocol.specs.Asks.{asked_already, waits}
 use Rattle.xt_protocol.specs.FileStates.{FileState, Site, FileStep, and_then, steps_to, ground_of, members_of}
 use Rattle.xt_protocol.specs.Overdue.{expired, lease_became, deadlines_under}
-use Rattle.xt_protocol.specs.AskRows.{ask_handled, ask_let_in, ask_rows, ask_under, ask_without_lease, refusal_of, elsewhere, view_record, waiting_ask}
+use Rattle.xt_protocol.specs.AskRows.{handle_ask, ask_let_in, ask_rows, ask_under, ask_without_lease, refusal_of, elsewhere, view_record, waiting_ask}
 use Rattle.xt_protocol.specs.OsdSteps.{each_file, woken}
-use Rattle.xt_protocol.specs.FileLeases.{read_comes, write_comes, answer_comes, end_after_answer, lease_news, led_on, waiting_told}
+use Rattle.xt_protocol.specs.FileLeases.{read_comes, write_comes, answer_comes, end_after_answer, lease_news, led_on, answer_waiting}
 use Rattle.xt_protocol.specs.FileSteps.{step_of_file, message_comes, ask_comes, primary_hears, renews, wakes_under_lease, wake_of_file}
 use Rattle.osd_invariants.proofs.Kept.{wake_keeps, wake_follows, expired_quiet}
 use Rattle.osd_invariants.proofs.StripedAsks.{striped_outcome}
@@ -116,12 +116,12 @@ let_in_marks site s id capability asked None =
     subst (λ file. MarksAre file s.lease (ask_rows site first.state ask).turned.marks) (view_keeps s capability.location s.kept.location) (rows_marks site first.state ask)
 
 kind_marks : (site : Site) (s : FileState) (k : Kind) (id : OpId) (capability : Capability) (asked : Op) → Marked s s.lease (ask_comes site s k id capability asked)
-unfolding ask_handled
+unfolding handle_ask
 kind_marks site s kind.Replicated id capability asked = let_in_marks site s id capability asked (refusal_of site s.kept.location capability asked)
 kind_marks site s kind.Striped id capability asked = no_marks refl
 
-drawn_marks : (place : Place) (learnt : ℕ) (own : FileHead) (members : List NodeId) → (epoch_drawn place learnt own members).turned.marks ≡ []
-unfolding epoch_drawn
+drawn_marks : (place : Place) (learnt : ℕ) (own : FileHead) (members : List NodeId) → (draw_epoch place learnt own members).turned.marks ≡ []
+unfolding draw_epoch
 drawn_marks place learnt own members = one_of (nat_lt (epoch_above place learnt own).number COUNTS) _ _ refl refl
   where
     one_of : (b : Bool) (x y : Led) → x.turned.marks ≡ [] → y.turned.marks ≡ [] → (cond b x y).turned.marks ≡ []
@@ -140,7 +140,7 @@ news_marks site s l (holds end) busy = won end busy (ap (λ ms. lease_mark ∷ m
     lease_mark : Mark
     lease_mark = mark.Held s.kept.file.number end
 news_marks site s l (finds x) busy =
-    choice s.kept.file l (x.node.0 == site.node.0) (waiting_told site s (reply.NoLease s.last_end)) (waiting_told site s (reply.Elsewhere x.node x.end))
+    choice s.kept.file l (x.node.0 == site.node.0) (answer_waiting site s (reply.NoLease s.last_end)) (answer_waiting site s (reply.Elsewhere x.node x.end))
     (no_marks refl) (no_marks refl)
 news_marks site s l ends busy = no_marks refl
 
@@ -273,13 +273,13 @@ let_in_rec site s number id capability asked None = stored s.kept.location refl
 
 kind_rec : (site : Site) (s : FileState) (k : Kind) (number : ℕ) (id : OpId) (capability : Capability) (asked : Op)
     → RecordIs s.kept.file (payload.Ask number capability asked) (ask_comes site s k id capability asked).turned.rec
-unfolding ask_handled
+unfolding handle_ask
 kind_rec site s kind.Replicated number id capability asked = let_in_rec site s number id capability asked (refusal_of site s.kept.location capability asked)
 kind_rec site s kind.Striped number id capability asked =
     striped_outcome (λ (acted : Acted). RecordIs s.kept.file (payload.Ask number capability asked) acted.rec) site s.kept id capability asked
     (record { nothing = tt; tells = λ answer. tt; keeps = λ update is. refl })
 
-drawn_data : (place : Place) (learnt : ℕ) (own : FileHead) (members : List NodeId) → IsData place.file (epoch_drawn place learnt own members).turned.rec
+drawn_data : (place : Place) (learnt : ℕ) (own : FileHead) (members : List NodeId) → IsData place.file (draw_epoch place learnt own members).turned.rec
 drawn_data place learnt own members = (drawn_acts place learnt own members).plain
 
 led_on_data : (site : Site) (s : FileState) (t : Option Tenure) → IsData s.kept.file (led_on site s t).turned.rec
@@ -290,7 +290,7 @@ news_data : (site : Site) (s : FileState) (news : LeaseNews) → IsData s.kept.f
 news_data site s lease.nothing c = tt
 news_data site s (sends_write ballot x targets) c = tt
 news_data site s (holds end) c = led_on_data site (record s { last_end = end }) s.primary.tenure c
-news_data site s (finds x) c = either_is s.kept.file c (x.node.0 == site.node.0) (waiting_told site s (reply.NoLease s.last_end)) (waiting_told site s (reply.Elsewhere x.node x.end)) tt tt
+news_data site s (finds x) c = either_is s.kept.file c (x.node.0 == site.node.0) (answer_waiting site s (reply.NoLease s.last_end)) (answer_waiting site s (reply.Elsewhere x.node x.end)) tt tt
 news_data site s ends c = tt
 
 answer_data : (site : Site) (s : FileState) (from : NodeId) (content : Payload) → IsData s.kept.file (answer_comes site s from content).turned.rec

@@ -42,8 +42,8 @@ use Rattle.xt_protocol.specs.Serving.{wakes}
 use Rattle.xt_protocol.specs.Asks.{tells_each, tells_untold, asked_already, waits}
 use Rattle.xt_protocol.specs.FileStates.{FileState, Site, FileStep, and_then, steps_to, ground_of, members_of}
 use Rattle.xt_protocol.specs.Overdue.{expired, lease_became, deadlines_under, newly_due, is_due, no_lease_for_all}
-use Rattle.xt_protocol.specs.AskRows.{ask_handled, ask_let_in, ask_rows, ask_under, ask_without_lease, round_for, refusal_of, elsewhere, view_record, waiting_ask}
-use Rattle.xt_protocol.specs.FileLeases.{answer_to_read, read_comes, write_comes, answer_comes, answers_to_write, end_after_answer, lease_news, led_on, waiting_told}
+use Rattle.xt_protocol.specs.AskRows.{handle_ask, ask_let_in, ask_rows, ask_under, ask_without_lease, round_for, refusal_of, elsewhere, view_record, waiting_ask}
+use Rattle.xt_protocol.specs.FileLeases.{answer_to_read, read_comes, write_comes, answer_comes, answers_to_write, end_after_answer, lease_news, led_on, answer_waiting}
 use Rattle.xt_protocol.specs.FileSteps.{step_of_file, message_comes, ask_comes, primary_hears, renews, wakes_under_lease, wake_of_file}
 use Rattle.lease_runs.specs.LeaseView.{lease_row_of, is_ask, lease_setting, is_lease_or_ask, leases_and_asks, held_end, held_ends, IsBare, ShowsRow, stays_so, Follows, handles, asks, stays, Wakes, renewing, resting, settled_row}
 use Rattle.osd_invariants.specs.Sound.{IsStored}
@@ -199,7 +199,7 @@ let_in_follows site s id capability asked None from content is =
 
 kind_follows : (site : Site) (s : FileState) (k : Kind) (id : OpId) (capability : Capability) (asked : Op) (from : NodeId) (content : Payload)
     → is_ask content ≡ true → AsksOf site s s.lease from content (ask_comes site s k id capability asked)
-unfolding ask_handled
+unfolding handle_ask
 kind_follows site s kind.Replicated id capability asked from content is =
     let_in_follows site s id capability asked (refusal_of site s.kept.location capability asked) from content is
 kind_follows site s kind.Striped id capability asked from content is =
@@ -267,7 +267,7 @@ led_calm site s None =
     let q = drawn_bare (ground_of site s).place s.primary.learnt s.kept.head (members_of s.kept.location) in
     record { row = refl; outs = q.outs; ends = q.ends }
 
-told_calm : (site : Site) (s : FileState) (answer : Reply) → IsCalm s (waiting_told site s answer)
+told_calm : (site : Site) (s : FileState) (answer : Reply) → IsCalm s (answer_waiting site s answer)
 told_calm site s answer = record { row = refl; outs = each_told site.node s.kept.file s.asks.waiting answer; ends = refl }
 
 either_calm : (s : FileState) (b : Bool) (x y : FileStep) → IsCalm s x → IsCalm s y → IsCalm s (cond b x y)
@@ -291,7 +291,7 @@ news_shows site s location (holds end) =
     let q = led_calm site (record s { last_end = end }) s.primary.tenure in
     record { row = q.row; outs = q.outs; ends = ap (λ told. end ∷ told) q.ends }
 news_shows site s location (finds l) =
-    let q = either_calm s (l.node.0 == site.node.0) (waiting_told site s (reply.NoLease s.last_end)) (waiting_told site s (reply.Elsewhere l.node l.end))
+    let q = either_calm s (l.node.0 == site.node.0) (answer_waiting site s (reply.NoLease s.last_end)) (answer_waiting site s (reply.Elsewhere l.node l.end))
     (told_calm site s (reply.NoLease s.last_end)) (told_calm site s (reply.Elsewhere l.node l.end)) in
     record { row = q.row; outs = q.outs; ends = q.ends }
 news_shows site s location ends = let q = told_calm site s (reply.NoLease s.last_end) in record { row = q.row; outs = q.outs; ends = q.ends }

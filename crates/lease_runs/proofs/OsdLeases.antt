@@ -18,7 +18,7 @@ use Rattle.xt_protocol.specs.ReplicaRows.{kept_after}
 use Rattle.xt_protocol.specs.FileStates.{FileState, Site, FileStep}
 use Rattle.xt_protocol.specs.Overdue.{expired}
 use Rattle.xt_protocol.specs.FileSteps.{step_of_file, wake_of_file}
-use Rattle.xt_protocol.specs.OsdSteps.{Outside, OsdState, OsdStep, step_of_osd, file_at, with_file, each_file, file_concerned, handled_awake, message_handled, woken}
+use Rattle.xt_protocol.specs.OsdSteps.{Outside, OsdState, OsdStep, step_of_osd, file_at, with_file, each_file, file_concerned, handled_awake, handle_message, woken}
 use Rattle.lease_runs.specs.LeaseView.{lease_row_of, lease_setting, listed, is_lease_or_ask, leases_and_asks, held_end, held_ends, Follows, Wakes, renewing, resting, settled_row}
 use Rattle.lease_runs.specs.OsdView.{site_of, file_after, ShowsMessage, ShowsWake, wake_step}
 use Rattle.lease_runs.proofs.LeaseSteps.{expired_shows, expired_keeps, step_follows, wake_wakes, wake_after}
@@ -92,7 +92,7 @@ step_keeps site s from content =
 -- what a message leaves
 abbrev pub handled : Outside → OsdState → ℕ → Awake → Msg → Option FileId → OsdStep
 handled outside osd now awake msg concerned =
-    let step = message_handled (site_of outside awake now) awake osd.files msg concerned in
+    let step = handle_message (site_of outside awake now) awake osd.files msg concerned in
     record { osd = record { started = osd.started; last = now; files = step.files }; turned = step.turned }
 
 pub message_step : (outside : Outside) (osd : OsdState) (reading : ℕ) (msg : Msg) (file : FileId) (awake : Awake)

@@ -30,7 +30,7 @@ use Rattle.xt_protocol.specs.Turns.{joined}
 use Rattle.xt_protocol.specs.Stamps.{is_epoch, is_earlier, is_below, is_version, has_version}
 use Rattle.xt_protocol.specs.Writes.{WriteStanding, repeated, older, turned_away, fresh}
 use Rattle.xt_protocol.specs.Primaries.{Ground, Led, carries, is_unknown, is_ready, known_of_report, majority_among, nodes_of, peer_in, reports_of, statuses_counted, target_of, with_node}
-use Rattle.xt_protocol.specs.PrimaryRows.{epoch_drawn, epoch_above, installs, fetches, head_chosen, chooses, status_counted, feeds, status_told, with_state, hears_status, body_fetched, body_beyond, hears_object, body_staged, body_missed, hears_missing, target_in, head_acked, update_acked, acked_below, hears_ack, makes_current, outpromised, hears_peer, hears_member, hears_epoch, hears_in, epoch_told, hears}
+use Rattle.xt_protocol.specs.PrimaryRows.{draw_epoch, epoch_above, installs, fetches, choose_head, chooses, status_counted, feeds, take_status, with_state, hears_status, take_body, body_beyond, hears_object, body_staged, body_missed, hears_missing, target_in, ack_head, ack_update, acked_below, hears_ack, makes_current, outpromised, hears_peer, hears_member, hears_epoch, hears_in, message_epoch, hears}
 use Rattle.xt_protocol.specs.ReplicaRows.{stage_record}
 use Rattle.xt_protocol.specs.Folds.{body_of}
 use Rattle.xt_protocol.specs.Serving.{issues, issues_unless, write_stands, writes_in, writes_under, writes, next_update_of, reads}
@@ -63,8 +63,8 @@ stage_data file here object version bytes c = one_of (has_version here (body_of 
 
 -- A tenure begins.
 
-pub drawn_acts : (place : Place) (learnt : ℕ) (own : FileHead) (members : List NodeId) → Acts place.file (epoch_drawn place learnt own members).turned
-unfolding epoch_drawn
+pub drawn_acts : (place : Place) (learnt : ℕ) (own : FileHead) (members : List NodeId) → Acts place.file (draw_epoch place learnt own members).turned
+unfolding draw_epoch
 drawn_acts place learnt own members =
     either (nat_lt (epoch_above place learnt own).number COUNTS) _ _
     (record { marks = tt; plain = λ c. refl })
@@ -79,7 +79,7 @@ fetches_acts : (g : Ground) (learnt : ℕ) (t : Tenure) (chosen : FileHead) (sou
 fetches_acts g learnt t chosen source [] = installs_acts g learnt t chosen
 fetches_acts g learnt t chosen source (v ∷ later) = record { marks = tt; plain = λ c. tt }
 
-chosen_acts : (g : Ground) (learnt : ℕ) (t : Tenure) (best : NodeId × FileHead) → Acts g.place.file (head_chosen g learnt t best).turned
+chosen_acts : (g : Ground) (learnt : ℕ) (t : Tenure) (best : NodeId × FileHead) → Acts g.place.file (choose_head g learnt t best).turned
 chosen_acts g learnt t best =
     either (best.0.0 == g.place.node.0) _ _ (installs_acts g learnt t best.1) (fetches_acts g learnt t best.1 best.0 _)
 
@@ -97,7 +97,7 @@ feeds_acts : (g : Ground) (learnt : ℕ) (t : Tenure) (node : NodeId) (target : 
     → Acts g.place.file (feeds g learnt t node target known).turned
 feeds_acts g learnt t node target known = record { marks = tt; plain = λ c. tt }
 
-told_acts : (g : Ground) (learnt : ℕ) (t : Tenure) (p : Progress) (from : NodeId) (head : FileHead) → Acts g.place.file (status_told g learnt t p from head).turned
+told_acts : (g : Ground) (learnt : ℕ) (t : Tenure) (p : Progress) (from : NodeId) (head : FileHead) → Acts g.place.file (take_status g learnt t p from head).turned
 told_acts g learnt t progress.Gathering from head = counted_acts g learnt (with_state t from (peer.Reported head))
 told_acts g learnt t (progress.Fetching chosen source asked later) from head = record { marks = tt; plain = λ c. tt }
 told_acts g learnt t (progress.Installing chosen acked) from head = feeds_acts g learnt t from (target_of g.own t.epoch chosen) (known_of_report head)
@@ -109,7 +109,7 @@ status_acts g learnt t from state head = either (is_unknown state) _ _ (told_act
 -- Fetching and feeding.
 
 fetched_acts : (g : Ground) (learnt : ℕ) (t : Tenure) (chosen : FileHead) (source : NodeId) (later : List ObjectVersion) (object : ℕ) (version : Stamp)
-    (bytes : List ℕ) → Acts g.place.file (body_fetched g learnt t chosen source later object version bytes).turned
+    (bytes : List ℕ) → Acts g.place.file (take_body g learnt t chosen source later object version bytes).turned
 fetched_acts g learnt t chosen source later object version bytes =
     let p = fetches_acts (record g { body = body_beyond g.place.file (stage_record g.place.file g.held object version bytes) g.body }) learnt t chosen source later in
     record { marks = p.marks; plain = stage_data g.place.file g.held object version bytes }
@@ -140,11 +140,11 @@ missing_acts g learnt t p from state v = missed_acts g learnt t (target_in g.own
 
 -- Acknowledgements.
 
-head_acked_acts : (g : Ground) (learnt : ℕ) (t : Tenure) (chosen : FileHead) (acked : List NodeId) → Acts g.place.file (head_acked g learnt t chosen acked).turned
+head_acked_acts : (g : Ground) (learnt : ℕ) (t : Tenure) (chosen : FileHead) (acked : List NodeId) → Acts g.place.file (ack_head g learnt t chosen acked).turned
 head_acked_acts g learnt t chosen acked = either (carries g.place t.peers acked) _ _ (record { marks = (refl, tt); plain = λ c. tt }) (record { marks = tt; plain = λ c. tt })
 
 update_acked_acts : (g : Ground) (learnt : ℕ) (t : Tenure) (head : FileHead) (update : Update) (acked : List NodeId)
-    → Acts g.place.file (update_acked g learnt t head update acked).turned
+    → Acts g.place.file (ack_update g learnt t head update acked).turned
 update_acked_acts g learnt t head update acked =
     either (carries g.place t.peers acked) _ _ (record { marks = (refl, (refl, tt)); plain = λ c. tt }) (record { marks = tt; plain = λ c. tt })
 
@@ -189,7 +189,7 @@ epoch_acts g learnt t from (Some epoch) content =
 
 in_acts : (g : Ground) (learnt : ℕ) (t : Option Tenure) (from : NodeId) (content : Payload) → Acts g.place.file (hears_in g learnt t from content).turned
 in_acts g learnt None from content = record { marks = tt; plain = λ c. tt }
-in_acts g learnt (Some t) from content = epoch_acts g learnt t from (epoch_told content) content
+in_acts g learnt (Some t) from content = epoch_acts g learnt t from (message_epoch content) content
 
 pub hears_acts : (g : Ground) (p : PrimaryState) (from : NodeId) (content : Payload) → Acts g.place.file (hears g p from content).turned
 unfolding hears

@@ -30,10 +30,10 @@ use Rattle.xt_protocol.specs.Turns.{message, joined}
 use Rattle.xt_protocol.specs.Stamps.{is_epoch, is_earlier, is_below, is_version}
 use Rattle.xt_protocol.specs.Writes.{WriteStanding, repeated, older, turned_away, fresh}
 use Rattle.xt_protocol.specs.Primaries.{Ground, Led, carries, fed, if_any, is_unknown, is_ready, known_of_report, majority_among, nodes_of, peer_in, reports_of, statuses_counted, target_of, with_node}
-use Rattle.xt_protocol.specs.PrimaryRows.{epoch_drawn, epoch_above, installs, peers_fed, fetches, head_chosen, chooses, status_counted, feeds, status_told, with_state, hears_status, body_fetched, body_beyond, hears_object, body_staged, body_missed, hears_missing, target_in, head_acked, update_acked, acked_below, hears_ack, makes_current, outpromised, hears_peer, hears_member, hears_epoch, hears_in, epoch_told, hears}
+use Rattle.xt_protocol.specs.PrimaryRows.{draw_epoch, epoch_above, installs, feed_peers, fetches, choose_head, chooses, status_counted, feeds, take_status, with_state, hears_status, take_body, body_beyond, hears_object, body_staged, body_missed, hears_missing, target_in, ack_head, ack_update, acked_below, hears_ack, makes_current, outpromised, hears_peer, hears_member, hears_epoch, hears_in, message_epoch, hears}
 use Rattle.xt_protocol.specs.ReplicaRows.{stage_record}
 use Rattle.xt_protocol.specs.Folds.{body_of}
-use Rattle.xt_protocol.specs.Serving.{issues, issues_unless, write_stands, writes_in, writes_under, writes, next_update_of, current_others, reads, gather_unknown, unacked, sent_again, wakes_in, wakes_under, wakes}
+use Rattle.xt_protocol.specs.Serving.{issues, issues_unless, write_stands, writes_in, writes_under, writes, next_update_of, current_others, reads, gather_unknown, unacked, resend, wakes_in, wakes_under, wakes}
 use Rattle.xt_protocol.specs.Asks.{Served, asks_follow, is_read, read_answer, serves, serves_all, serves_waiting, stays, write_done}
 use Rattle.lease_runs.specs.LeaseView.{leases_and_asks, held_ends, IsBare}
 use Rattle.lease_runs.proofs.Bare.{map_bare, flat_bare, last_bare, each_last_bare, joined_bare}
@@ -51,8 +51,8 @@ either false p q = q
 
 -- A tenure begins.
 
-pub drawn_bare : (place : Place) (learnt : ℕ) (own : FileHead) (members : List NodeId) → Calm (epoch_drawn place learnt own members)
-unfolding epoch_drawn
+pub drawn_bare : (place : Place) (learnt : ℕ) (own : FileHead) (members : List NodeId) → Calm (draw_epoch place learnt own members)
+unfolding draw_epoch
 drawn_bare place learnt own members =
     either (nat_lt (epoch_above place learnt own).number COUNTS)
     (record { outs = map_bare (λ to. message place.node to (payload.Gather place.file (epoch_above place learnt own))) members (λ to. refl); ends = refl })
@@ -60,14 +60,14 @@ drawn_bare place learnt own members =
 
 installs_bare : (g : Ground) (learnt : ℕ) (t : Tenure) (chosen : FileHead) → Calm (installs g learnt t chosen)
 installs_bare g learnt t chosen =
-    record { outs = each_last_bare g.place t.epoch (peers_fed g (target_of g.own t.epoch chosen) t.peers); ends = refl }
+    record { outs = each_last_bare g.place t.epoch (feed_peers g (target_of g.own t.epoch chosen) t.peers); ends = refl }
 
 fetches_bare : (g : Ground) (learnt : ℕ) (t : Tenure) (chosen : FileHead) (source : NodeId) (wanted : List ObjectVersion)
     → Calm (fetches g learnt t chosen source wanted)
 fetches_bare g learnt t chosen source [] = installs_bare g learnt t chosen
 fetches_bare g learnt t chosen source (v ∷ later) = record { outs = refl; ends = refl }
 
-chosen_bare : (g : Ground) (learnt : ℕ) (t : Tenure) (best : NodeId × FileHead) → Calm (head_chosen g learnt t best)
+chosen_bare : (g : Ground) (learnt : ℕ) (t : Tenure) (best : NodeId × FileHead) → Calm (choose_head g learnt t best)
 chosen_bare g learnt t best =
     either (best.0.0 == g.place.node.0) (installs_bare g learnt t best.1) (fetches_bare g learnt t best.1 best.0 _)
 
@@ -85,7 +85,7 @@ feeds_bare : (g : Ground) (learnt : ℕ) (t : Tenure) (node : NodeId) (target : 
     → Calm (feeds g learnt t node target known)
 feeds_bare g learnt t node target known = record { outs = last_bare g.place.node node g.place.file t.epoch (fed g.body target known); ends = refl }
 
-told_bare : (g : Ground) (learnt : ℕ) (t : Tenure) (p : Progress) (from : NodeId) (head : FileHead) → Calm (status_told g learnt t p from head)
+told_bare : (g : Ground) (learnt : ℕ) (t : Tenure) (p : Progress) (from : NodeId) (head : FileHead) → Calm (take_status g learnt t p from head)
 told_bare g learnt t progress.Gathering from head = counted_bare g learnt (with_state t from (peer.Reported head))
 told_bare g learnt t (progress.Fetching chosen source asked later) from head = record { outs = refl; ends = refl }
 told_bare g learnt t (progress.Installing chosen acked) from head = feeds_bare g learnt t from (target_of g.own t.epoch chosen) (known_of_report head)
@@ -97,7 +97,7 @@ status_bare g learnt t from state head = either (is_unknown state) (told_bare g 
 -- Fetching and feeding.
 
 fetched_bare : (g : Ground) (learnt : ℕ) (t : Tenure) (chosen : FileHead) (source : NodeId) (later : List ObjectVersion) (object : ℕ) (version : Stamp)
-    (bytes : List ℕ) → Calm (body_fetched g learnt t chosen source later object version bytes)
+    (bytes : List ℕ) → Calm (take_body g learnt t chosen source later object version bytes)
 fetched_bare g learnt t chosen source later object version bytes =
     let p = fetches_bare (record g { body = body_beyond g.place.file (stage_record g.place.file g.held object version bytes) g.body }) learnt t chosen source later in
     record { outs = p.outs; ends = p.ends }
@@ -128,11 +128,11 @@ missing_bare g learnt t p from state v = missed_bare g learnt t (target_in g.own
 
 -- Acknowledgements.
 
-head_acked_bare : (g : Ground) (learnt : ℕ) (t : Tenure) (chosen : FileHead) (acked : List NodeId) → Calm (head_acked g learnt t chosen acked)
+head_acked_bare : (g : Ground) (learnt : ℕ) (t : Tenure) (chosen : FileHead) (acked : List NodeId) → Calm (ack_head g learnt t chosen acked)
 head_acked_bare g learnt t chosen acked = either (carries g.place t.peers acked) (record { outs = refl; ends = refl }) (record { outs = refl; ends = refl })
 
 update_acked_bare : (g : Ground) (learnt : ℕ) (t : Tenure) (head : FileHead) (update : Update) (acked : List NodeId)
-    → Calm (update_acked g learnt t head update acked)
+    → Calm (ack_update g learnt t head update acked)
 update_acked_bare g learnt t head update acked =
     either (carries g.place t.peers acked) (record { outs = refl; ends = refl }) (record { outs = refl; ends = refl })
 
@@ -177,7 +177,7 @@ epoch_bare g learnt t from (Some epoch) content =
 
 in_bare : (g : Ground) (learnt : ℕ) (t : Option Tenure) (from : NodeId) (content : Payload) → Calm (hears_in g learnt t from content)
 in_bare g learnt None from content = record { outs = refl; ends = refl }
-in_bare g learnt (Some t) from content = epoch_bare g learnt t from (epoch_told content) content
+in_bare g learnt (Some t) from content = epoch_bare g learnt t from (message_epoch content) content
 
 pub hears_bare : (g : Ground) (p : PrimaryState) (from : NodeId) (content : Payload) → Calm (hears g p from content)
 unfolding hears
@@ -289,7 +289,7 @@ unacked_bare place node (Some issued) = one_of (has_node issued.acked node.0)
     one_of false = refl
 
 again_bare : (place : Place) (epoch : Epoch) (issued : Option IssuedUpdate) (node : NodeId) (state : PeerState)
-    → leases_and_asks (if_any place.node node (sent_again place epoch issued node state)) ≡ []
+    → leases_and_asks (if_any place.node node (resend place epoch issued node state)) ≡ []
 again_bare place epoch issued node peer.Unknown = refl
 again_bare place epoch issued node (peer.Reported head) = refl
 again_bare place epoch issued node (peer.Feeding known object version body) = refl
@@ -301,9 +301,9 @@ wakes_in_bare place t progress.Gathering =
     record { outs = flat_bare (λ p. if_any place.node p.node (gather_unknown place t.epoch p.node p.state)) t.peers (λ p. unknown_bare place t.epoch p.node p.state); ends = refl }
 wakes_in_bare place t (progress.Fetching chosen source asked later) = record { outs = refl; ends = refl }
 wakes_in_bare place t (progress.Installing chosen acked) =
-    record { outs = flat_bare (λ p. if_any place.node p.node (sent_again place t.epoch None p.node p.state)) t.peers (λ p. again_bare place t.epoch None p.node p.state); ends = refl }
+    record { outs = flat_bare (λ p. if_any place.node p.node (resend place t.epoch None p.node p.state)) t.peers (λ p. again_bare place t.epoch None p.node p.state); ends = refl }
 wakes_in_bare place t (progress.Active head issued) =
-    record { outs = flat_bare (λ p. if_any place.node p.node (sent_again place t.epoch issued p.node p.state)) t.peers (λ p. again_bare place t.epoch issued p.node p.state); ends = refl }
+    record { outs = flat_bare (λ p. if_any place.node p.node (resend place t.epoch issued p.node p.state)) t.peers (λ p. again_bare place t.epoch issued p.node p.state); ends = refl }
 
 wakes_under_bare : (place : Place) (t : Option Tenure) → IsBare (wakes_under place t)
 wakes_under_bare place None = record { outs = refl; ends = refl }

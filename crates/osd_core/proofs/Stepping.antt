@@ -19,7 +19,7 @@ use Rattle.xt_protocol.specs.Turns.{quiet, joined, sends}
 use Rattle.xt_protocol.specs.FileStates.{FileState, FileStep, Site}
 use Rattle.xt_protocol.specs.Overdue.{expired}
 use Rattle.xt_protocol.specs.FileSteps.{step_of_file, wake_of_file}
-use Rattle.xt_protocol.specs.OsdSteps.{Outside, OsdState, OsdStep, FilesStep, file_at, with_file, each_file, asks_dir, file_concerned, message_handled, woken, event_handled, handled_awake, step_of_osd}
+use Rattle.xt_protocol.specs.OsdSteps.{Outside, OsdState, OsdStep, FilesStep, file_at, with_file, each_file, asks_dir, file_concerned, handle_message, woken, handle_event, handled_awake, step_of_osd}
 use Rattle.osd_invariants.proofs.Kept.{step_follows}
 use Rattle.osd_files.specs.Views.{site_at}
 use Rattle.osd_files.specs.declared.waking.Woken.{Woken}
@@ -124,7 +124,7 @@ step_keeps site s from content =
 pub met_take : (site : Site) (awake : Awake) (msg : Msg) (file : FileId) (old made : MetFiles) (new : BTreeMap FileId Slot) (p q : Slot) (turned : Turned) → AreMet awake old → IsMet file old made
     → slot_at file made.slots.entries ≡ Some p → WritesThrough file_cmp (file_cmp file) made.slots q new → IsSoundSlot awake q
     → step_of_file site (state_of awake p) msg.from msg.payload ≡ record { state = state_of awake q; turned = turned }
-    → StepsFiles (λ files. message_handled site awake files msg (Some file)) awake old (record { slots = new; busy = made.busy }) turned
+    → StepsFiles (λ files. handle_message site awake files msg (Some file)) awake old (record { slots = new; busy = made.busy }) turned
 met_take site awake msg file old made new p q turned are met there writes sound step =
     let files = states_of awake old.slots.entries in
     let found = found_slot awake file old made are met p there in
@@ -165,12 +165,12 @@ pub met_took : {E : Type 0} (now : ℕ) (sealed : Bool) (body : FileId → ℕ �
     → AreMet awake old → IsMet file old made → slot_at file made.slots.entries ≡ Some p → WritesThrough file_cmp (file_cmp file) made.slots q new → IfOk r (λ turned. IsSoundSlot awake q)
     → IfOk r (λ turned. IsRowOn (λ site s. step_of_file site s msg.from msg.payload) msg.payload sealed now body (view_of awake p) (view_of awake q) turned) → file_concerned msg.payload ≡ Some file
     → IfOk r (λ turned. (test : Capability → Bool) → IsSealedBy test msg.payload sealed
-    → StepsFiles (λ files. message_handled (site_at awake now test body) awake files msg (file_concerned msg.payload)) awake old (record { slots = new; busy = made.busy }) turned)
+    → StepsFiles (λ files. handle_message (site_at awake now test body) awake files msg (file_concerned msg.payload)) awake old (record { slots = new; busy = made.busy }) turned)
 met_took now sealed body awake msg file old made new p q (Ok turned) are met there writes sound row concerns =
     λ test is_sealed.
     let site = site_at awake now test body in
     let after : MetFiles = record { slots = new; busy = made.busy } in
-    subst (λ o. StepsFiles (λ files. message_handled site awake files msg o) awake old after turned) (sym concerns)
+    subst (λ o. StepsFiles (λ files. handle_message site awake files msg o) awake old after turned) (sym concerns)
     (met_take site awake msg file old made new p q turned are met there writes sound (row test is_sealed).step)
 met_took now sealed body awake msg file old made new p q (Err e) are met there writes sound row concerns = sound
 
@@ -223,13 +223,13 @@ module _ (silent : Silent) (now : ℕ) (awake : Awake) (is_awake : awake_at sile
   met_there met = subst (λ a. AreMet a met) (sym (awake_is silent now awake is_awake))
 
   pub awake_step : (outside : Outside) (last reading : ℕ) (happens : Event) (old new : MetFiles) (turned : Turned) → now ≡ max reading last
-      → StepsFiles (λ files. event_handled (site_at awake now outside.sealed outside.body) awake files happens) awake old new turned
+      → StepsFiles (λ files. handle_event (site_at awake now outside.sealed outside.body) awake files happens) awake old new turned
       → step_of_osd outside (osd_of silent last (states_of (awake_of silent) old.slots.entries)) reading happens ≡ record { osd = osd_of silent now (states_of (awake_of silent) new.slots.entries); turned = turned }
   unfolding step_of_osd
   awake_step outside last reading happens old new turned is steps =
       let osd = osd_of silent last (states_of (awake_of silent) old.slots.entries) in
       let after : FilesStep → OsdStep = λ step. record { osd = osd_of silent now step.files; turned = step.turned } in
-      let here = subst (λ a. StepsFiles (λ files. event_handled (site_at a now outside.sealed outside.body) a files happens) a old new turned) (awake_is silent now awake is_awake) steps in
+      let here = subst (λ a. StepsFiles (λ files. handle_event (site_at a now outside.sealed outside.body) a files happens) a old new turned) (awake_is silent now awake is_awake) steps in
       ap (λ n. handled_awake outside osd n happens (awake_at silent n)) (sym is)
       ∙ ap (handled_awake outside osd now happens) (is_awake ∙ ap (λ a. Some a) (awake_is silent now awake is_awake))
       ∙ ap after here.step

@@ -2,7 +2,7 @@ ghost use Rattle.std.specs.Prelude.{◌≡◌, ◌<◌, ◌^◌, Ok, IfOk, IfSom
 ghost use Rattle.xt_protocol.specs.SeenBodies.{body_by};
 ghost use Rattle.object_versions.specs.KeptBodies.{fault_of, ReadsOnly};
 ghost use Rattle.xt_protocol.specs.Forgetting.{keep_of, osd_without};
-ghost use Rattle.xt_protocol.specs.OsdSteps.{event_handled, osd_from, step_of_osd};
+ghost use Rattle.xt_protocol.specs.OsdSteps.{handle_event, osd_from, step_of_osd};
 ghost use Rattle.osd_files.specs.Views.{site_at};
 ghost use Rattle.xt_messages.specs.Limits.{FitsEvent};
 ghost use Rattle.osd_core.specs.Keys.{FitsKey, sealed_by, stops_by, outside_of};
@@ -79,7 +79,7 @@ fn handle<B: Bodies>(
     requires fits { FitsEvent ev.now }
     ensures step { IfOk result (λ turned.
         StepsFiles (λ files.
-        event_handled (site_at awake now (sealed_by key.now) (body_by (B.records bodies.old))) awake
+        handle_event (site_at awake now (sealed_by key.now) (body_by (B.records bodies.old))) awake
         files ev.now) awake met.old met.new turned) }
     ensures reads { ReadsOnly B.records B.fault_count bodies.old bodies.new (fault_of result) }
 {

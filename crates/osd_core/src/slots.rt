@@ -10,7 +10,7 @@ ghost use Rattle.xt_protocol.specs.LeaseRows.{Awake};
 ghost use Rattle.xt_protocol.specs.SeenBodies.{body_by};
 ghost use Rattle.object_versions.specs.KeptBodies.{fault_of, ReadsOnly};
 ghost use Rattle.xt_protocol.specs.Turns.{joined, quiet};
-ghost use Rattle.xt_protocol.specs.OsdSteps.{asks_dir, file_concerned, message_handled, woken};
+ghost use Rattle.xt_protocol.specs.OsdSteps.{asks_dir, file_concerned, handle_message, woken};
 ghost use Rattle.osd_files.specs.Views.{site_at};
 ghost use Rattle.osd_files.specs.Whole.{IsSealedBy};
 ghost use Rattle.osd_core.specs.Slots.{slots_from, states_of, AreMet, AreRows, ForgetsMet, IsMade, IsMet, StaysBusy, StepsFiles, WakesBehind, WakesBusy, WakesIfMet, WakesMet, WakesMore};
@@ -97,7 +97,7 @@ pub fn take<B: Bodies>(
     ensures step { IfOk result (λ turned. (test : Capability → Bool) →
         IsSealedBy test msg.now.payload sealed →
         StepsFiles (λ files.
-        message_handled (site_at awake now test (body_by (B.records bodies.old))) awake files
+        handle_message (site_at awake now test (body_by (B.records bodies.old))) awake files
         msg.now (file_concerned msg.now.payload)) awake met.old met.new turned) }
     ensures reads { ReadsOnly B.records B.fault_count bodies.old bodies.new (fault_of result) }
 {

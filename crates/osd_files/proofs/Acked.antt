@@ -27,7 +27,7 @@ use Rattle.xt_protocol.specs.declared.states.Progress.TheVariants as progress
 use Rattle.xt_protocol.specs.declared.states.Tenure.{Tenure}
 use Rattle.xt_protocol.specs.ReplicaRows.{stage_record}
 use Rattle.xt_protocol.specs.Primaries.{Ground, Led, carries, idle, is_unknown, majority_among, nodes_of, peer_in, reports_of, statuses_counted, with_node}
-use Rattle.xt_protocol.specs.PrimaryRows.{epoch_drawn, epoch_above, epoch_told, fetches, head_chosen, chooses, status_counted, status_told, with_state, body_beyond, hears_object, body_staged, body_missed, hears_missing, target_in, update_acked, acked_below, hears_ack, makes_current, hears_peer, hears_member, hears_epoch, hears_in, hears}
+use Rattle.xt_protocol.specs.PrimaryRows.{draw_epoch, epoch_above, message_epoch, fetches, choose_head, chooses, status_counted, take_status, with_state, body_beyond, hears_object, body_staged, body_missed, hears_missing, target_in, ack_update, acked_below, hears_ack, makes_current, hears_peer, hears_member, hears_epoch, hears_in, hears}
 use Rattle.xt_protocol.specs.declared.turned.Turned.{Turned}
 use Rattle.replica_primary.specs.PrimaryViews.{PrimaryView}
 use Rattle.osd_invariants.specs.Sound.{PeersAre}
@@ -121,8 +121,8 @@ module _ (members : List NodeId) where
   either true x y l r = l
   either false x y l r = r
 
-  drawn : (place : Place) (learnt : ℕ) (own : FileHead) (nodes : List NodeId) → LedAcked members (epoch_drawn place learnt own nodes)
-  unfolding epoch_drawn
+  drawn : (place : Place) (learnt : ℕ) (own : FileHead) (nodes : List NodeId) → LedAcked members (draw_epoch place learnt own nodes)
+  unfolding draw_epoch
   drawn place learnt own nodes = either (nat_lt (epoch_above place learnt own).number COUNTS) _ _ tt tt
 
   module _ (g : Ground) (learnt : ℕ) where
@@ -134,13 +134,13 @@ module _ (members : List NodeId) where
     chose t r [] = r
     chose t r (first ∷ others) = chosen _
       where
-        chosen : (best : NodeId × FileHead) → LedAcked members (head_chosen g learnt t best)
+        chosen : (best : NodeId × FileHead) → LedAcked members (choose_head g learnt t best)
         chosen best = either (best.0.0 == g.place.node.0) _ _ none_acked (fetched g t best.1 best.0 _)
 
     counted : (t : Tenure) → ProgressIsAcked members t.progress → LedAcked members (status_counted g learnt t)
     counted t r = either (nat_le (majority_among t.peers) (statuses_counted t.peers)) _ _ (chose t r (reports_of t.peers)) r
 
-    told : (t : Tenure) → ProgressIsAcked members t.progress → (p : Progress) (from : NodeId) (head : FileHead) → LedAcked members (status_told g learnt t p from head)
+    told : (t : Tenure) → ProgressIsAcked members t.progress → (p : Progress) (from : NodeId) (head : FileHead) → LedAcked members (take_status g learnt t p from head)
     told t r progress.Gathering from head = counted (with_state t from (peer.Reported head)) r
     told t r (progress.Fetching chosen source asked later) from head = r
     told t r (progress.Installing chosen acked) from head = r
@@ -166,7 +166,7 @@ module _ (members : List NodeId) where
     missing t r (progress.Fetching chosen source asked later) from state v = either (from.0 == source.0) _ _ (drawn g.place learnt g.own (nodes_of t.peers)) r
     missing t r p from state v = missed t r (target_in g.own t.epoch p) from state v
 
-    updated : (t : Tenure) (head : FileHead) (update : Update) (acked : List NodeId) → AreAcked members acked → LedAcked members (update_acked g learnt t head update acked)
+    updated : (t : Tenure) (head : FileHead) (update : Update) (acked : List NodeId) → AreAcked members acked → LedAcked members (ack_update g learnt t head update acked)
     updated t head update acked are = either (carries g.place t.peers acked) _ _ tt are
 
     module _ (from : NodeId) (is : has_node members from.0 ≡ true) where
@@ -215,7 +215,7 @@ heard_in : (members : List NodeId) (g : Ground) (learnt : ℕ) (tenure : Option 
     → IsCounted members (hears_in g learnt tenure from content).primary.tenure
 heard_in members g learnt None from content counted = tt
 heard_in members g learnt (Some t) from content counted =
-    both members _ (epoch_leads members g learnt t from (epoch_told content) content counted.0).peers (of_epoch members g learnt t counted.0 counted.1 from (epoch_told content) content)
+    both members _ (epoch_leads members g learnt t from (message_epoch content) content counted.0).peers (of_epoch members g learnt t counted.0 counted.1 from (message_epoch content) content)
 
 -- After a message the peers are the members, and each member has acknowledged at most once.
 pub hears_counted : (members : List NodeId) (g : Ground) (p : PrimaryState) (from : NodeId) (content : Payload) → IsCounted members p.tenure

@@ -19,7 +19,7 @@ use Rattle.xt_protocol.specs.declared.states.Progress.TheVariants as progress
 use Rattle.xt_protocol.specs.declared.states.Tenure.{Tenure}
 use Rattle.xt_protocol.specs.declared.states.PrimaryState.{PrimaryState}
 use Rattle.xt_protocol.specs.Primaries.{Ground, Led, nodes_of, unknown_peer}
-use Rattle.xt_protocol.specs.PrimaryRows.{epoch_drawn, epoch_above}
+use Rattle.xt_protocol.specs.PrimaryRows.{draw_epoch, epoch_above}
 use Rattle.xt_protocol.specs.Serving.{issues, issues_unless, next_update_of, write_stands, writes, writes_in, writes_under}
 use Rattle.xt_protocol.specs.Writes.{WriteStanding, repeated, older, turned_away, fresh, standing}
 use Rattle.replica_primary.specs.Written.{ground}
@@ -36,8 +36,8 @@ either : (P : Led → Type 0) (b : Bool) (x y : Led) → P x → P y → P (cond
 either P true x y l r = l
 either P false x y l r = r
 
-pub drawn_counted : (place : Place) (learnt : ℕ) (own : FileHead) (members : List NodeId) → IsCounted members (epoch_drawn place learnt own members).primary.tenure
-unfolding epoch_drawn
+pub drawn_counted : (place : Place) (learnt : ℕ) (own : FileHead) (members : List NodeId) → IsCounted members (draw_epoch place learnt own members).primary.tenure
+unfolding draw_epoch
 drawn_counted place learnt own members =
     let P : Led → Type 0 = λ led. IsCounted members led.primary.tenure in
     either P (nat_lt (epoch_above place learnt own).number COUNTS) _ _ (fresh_nodes members, tt) tt
@@ -96,7 +96,7 @@ issue_counted members place records old new id epoch asked (Ok (Some turned)) co
 -- a primary that was to begin, whatever came of it
 pub begin_counted : {E : Type 0} (old new : PrimaryView) (own : FileHead) (members : List NodeId) (r : Result Turned E)
     → IsCounted members old.state.tenure
-    → IfOk r (λ led. new ≡ record old { state = (epoch_drawn old.place old.state.learnt own members).primary }) → OnErr r (new ≡ old)
+    → IfOk r (λ led. new ≡ record old { state = (draw_epoch old.place old.state.learnt own members).primary }) → OnErr r (new ≡ old)
     → IsCounted members new.state.tenure
 begin_counted old new own members (Ok led) counted state same =
     subst (λ (v : PrimaryView). IsCounted members v.state.tenure) (sym state) (drawn_counted old.place old.state.learnt own members)

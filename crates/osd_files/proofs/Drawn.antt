@@ -9,7 +9,7 @@ use Rattle.xt_base.specs.declared.TheConstants.{COUNTS}
 use Rattle.xt_messages.specs.Limits.{FitsEpoch, is_at_most}
 use Rattle.xt_protocol.specs.declared.turned.Turned.{Turned}
 use Rattle.xt_protocol.specs.declared.states.Place.{Place}
-use Rattle.xt_protocol.specs.PrimaryRows.{epoch_drawn, epoch_above}
+use Rattle.xt_protocol.specs.PrimaryRows.{draw_epoch, epoch_above}
 use Rattle.replica_state.specs.Kept.{IsNotable}
 use Rattle.osd_files.proofs.Rows.{lt_true}
 
@@ -26,12 +26,12 @@ fits : (place : Place) (learnt : ℕ) (own : FileHead) → place.node.0 < 2 ^ 32
 fits place learnt own node is = record { place = ltb-true (1 + max own.promised.number learnt) COUNTS is; primary = node }
 
 pub drawn : (place : Place) (learnt : ℕ) (own : FileHead) (members : List NodeId) (row : FileRow) → place.node.0 < 2 ^ 32 → own ≡ row.head
-    → IfSome (epoch_drawn place learnt own members).turned.rec (IsNotable row)
-unfolding epoch_drawn
+    → IfSome (draw_epoch place learnt own members).turned.rec (IsNotable row)
+unfolding draw_epoch
 drawn place learnt own members row node is =
     let test = nat_lt (epoch_above place learnt own).number COUNTS in
-    let on : (b : Bool) → test ≡ b → IfSome (epoch_drawn place learnt own members).turned.rec (IsNotable row) = λ b same.
-    elim b as (λ b. test ≡ b → IfSome (epoch_drawn place learnt own members).turned.rec (IsNotable row)) [
+    let on : (b : Bool) → test ≡ b → IfSome (draw_epoch place learnt own members).turned.rec (IsNotable row) = λ b same.
+    elim b as (λ b. test ≡ b → IfSome (draw_epoch place learnt own members).turned.rec (IsNotable row)) [
       | true ↦ λ same. rw same (fits place learnt own node same, subst (λ (h : FileHead). is_at_most h.promised (epoch_above place learnt own) ≡ true) is (above place learnt own))
       | false ↦ λ same. rw same tt
     ] same
@@ -39,7 +39,7 @@ drawn place learnt own members row node is =
     on test refl
 
 pub drawn_notable : (place : Place) (learnt : ℕ) (own : FileHead) (members : List NodeId) (row : FileRow) (turned : Turned) → place.node.0 < 2 ^ 32 → own ≡ row.head
-    → turned ≡ (epoch_drawn place learnt own members).turned → IfSome turned.rec (IsNotable row)
+    → turned ≡ (draw_epoch place learnt own members).turned → IfSome turned.rec (IsNotable row)
 drawn_notable place learnt own members row turned node is led =
     let P : Turned → Type 0 = λ t. IfSome t.rec (IsNotable row) in
     subst P (sym led) (drawn place learnt own members row node is)

@@ -8,7 +8,7 @@ use Rattle.xt_protocol.specs.declared.turned.Turned.{Turned}
 use Rattle.xt_protocol.specs.declared.states.WaitingAsk.{WaitingAsk}
 use Rattle.xt_protocol.specs.FileStates.{FileState, Site, steps_to, and_then}
 use Rattle.xt_protocol.specs.Turns.{keeps}
-use Rattle.xt_protocol.specs.AskRows.{ask_rows, ask_let_in, view_record, waiting_ask, ask_handled, refusal_of}
+use Rattle.xt_protocol.specs.AskRows.{ask_rows, ask_let_in, view_record, waiting_ask, handle_ask, refusal_of}
 use Rattle.xt_messages.specs.declared.reply.Reply.{Reply}
 use Rattle.osd_files.specs.Asking.{first_list, list_after}
 use Rattle.osd_files.proofs.Rows.{behind_it}
@@ -38,6 +38,6 @@ let_row site s id capability asked kept location ask is-kept is-list is-ask =
 
 -- an ask by what it is answered before any row
 pub handled : (site : Site) (s : FileState) (id : OpId) (capability : Capability) (asked : Op) (o : Option Reply) → o ≡ refusal_of site s.kept.location capability asked
-    → ask_handled site s id capability asked ≡ ask_let_in site s id capability asked o
-unfolding ask_handled
+    → handle_ask site s id capability asked ≡ ask_let_in site s id capability asked o
+unfolding handle_ask
 handled site s id capability asked o is = ap (λ (x : Option Reply). ask_let_in site s id capability asked x) (sym is)

@@ -35,7 +35,7 @@ use Rattle.xt_protocol.specs.Heads.{plain_stamp, first_epoch, version_of, sessio
 use Rattle.xt_protocol.specs.Objects.{present_body}
 use Rattle.xt_protocol.specs.Primaries.{if_any}
 use Rattle.xt_protocol.specs.ReplicaRows.{kept_after}
-use Rattle.xt_protocol.specs.StripedRows.{capability_range_list, range_and_list, striped_refusal, member_acts, to_client, striped_handled}
+use Rattle.xt_protocol.specs.StripedRows.{capability_range_list, range_and_list, striped_refusal, member_acts, to_client, handle_striped}
 use Rattle.xt_protocol.specs.PlainRows.{only, plain_step}
 use Rattle.xt_protocol.specs.Writes.{WriteStanding, repeated, older, turned_away, fresh, is_old_epoch, too_far, room_for_client, reach, judged, known_client, by_session, standing, written, objects_of, cuts_body, truncated, update_of}
 use Rattle.replica_state.specs.Kept.{IsNotable}
@@ -179,7 +179,7 @@ few_members location fits =
 
 -- The replica, which has the head that is kept, may take what is recorded.
 pub notable : (site : Site) (own row : FileRow) (id : OpId) (capability : Capability) (asked : Op) → row.head ≡ own.head → FitsHead row.head → FitsOpId id → FitsCapability capability
-    → FitsOp asked → IfSome (striped_handled site row id capability asked).rec (IsNotable own)
+    → FitsOp asked → IfSome (handle_striped site row id capability asked).rec (IsNotable own)
 notable site own row id capability asked same whole who seal limits =
     striped_outcome (λ (acted : Acted). IfSome acted.rec (IsNotable own)) site row id capability asked
     (record {
@@ -219,12 +219,12 @@ notable site own row id capability asked same whole who seal limits =
 -- ---- what comes of an ask
 
 pub refused_row : (site : Site) (row : FileRow) (id : OpId) (capability : Capability) (asked : Op) (answer : Reply) → striped_refusal site row.location capability asked ≡ Some answer
-    → to_client row.file id (only answer) ≡ striped_handled site row id capability asked
-unfolding striped_handled
+    → to_client row.file id (only answer) ≡ handle_striped site row id capability asked
+unfolding handle_striped
 refused_row site row id capability asked answer is = ap (λ (o : Option Reply). to_client row.file id (member_acts site row id capability asked o)) (sym is)
 
 pub let_in_row : (site : Site) (row : FileRow) (id : OpId) (capability : Capability) (asked : Op) → striped_refusal site row.location capability asked ≡ None
     → to_client row.file id (plain_step (record { file = row.file; node = site.node; head = row.head }) (site.body row.file) id capability.epoch capability.location asked)
-    ≡ striped_handled site row id capability asked
-unfolding striped_handled
+    ≡ handle_striped site row id capability asked
+unfolding handle_striped
 let_in_row site row id capability asked is = ap (λ (o : Option Reply). to_client row.file id (member_acts site row id capability asked o)) (sym is)

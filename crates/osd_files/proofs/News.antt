@@ -15,7 +15,7 @@ use Rattle.flease.specs.Moves.{turn_of}
 use Rattle.osd_invariants.specs.Sound.{IsStored, ListUnder}
 use Rattle.xt_protocol.specs.Register as register
 use Rattle.xt_protocol.specs.Register.{Round, Took, ignored, counted, write_to, alive, on_promise, same_ballot, lease_of, on_acceptance}
-use Rattle.xt_protocol.specs.LeaseRows.{LeaseState, LeaseStep, LeaseNews, Held, Renewing, Written, Turn, free, asking, writing, held, has_turn, is_inside, on_answer, renewal_under, renewal_answered, renewal_promised, renewal_accepted, renewal_won, news_of_renewal, news_of_targets, targets_of, asked_by, asking_answered, writing_answered, writing_accepted, step_of_asking, step_of_written, round_won, lease_won, won_too_late, written_won, written_still, round_over, outrun_learnt, without_renewal, with_renewal, renewed, no_news, renewal_ignores, renewal_outrun, nothing, sends_write, holds, finds, ends}
+use Rattle.xt_protocol.specs.LeaseRows.{LeaseState, LeaseStep, LeaseNews, Held, Renewing, Written, Turn, free, asking, writing, held, has_turn, is_inside, on_answer, renewal_under, renewal_answered, renewal_promised, renewal_accepted, renewal_won, news_of_renewal, news_of_targets, targets_of, asked_by, answer_asking, answer_writing, writing_accepted, step_of_asking, step_of_written, round_won, lease_won, won_too_late, written_won, written_still, round_over, outrun_learnt, without_renewal, with_renewal, renewed, no_news, renewal_ignores, renewal_outrun, nothing, sends_write, holds, finds, ends}
 use Rattle.osd_files.specs.Answers.{read_answer, write_answer, news_of, HoldBy}
 use Rattle.osd_files.specs.Owners.{Owner, owner_of, owner_of_proposer, renewer_in}
 use Rattle.osd_files.proofs.Owned.{IsOwn, either}
@@ -66,7 +66,7 @@ asked_so now location counted r ballot lease = tt
 asked_so now location (write_to targets) r ballot lease = tt
 asked_so now location (alive found) r ballot lease = tt
 
-asking_so : (location : Option Location) (r : Round) (now : ℕ) (from : NodeId) (content : Payload) → holds_so now location (asking_answered r now from content)
+asking_so : (location : Option Location) (r : Round) (now : ℕ) (from : NodeId) (content : Payload) → holds_so now location (answer_asking r now from content)
 asking_so location r now from (payload.Promise file ballot boot report) =
     let promised = on_promise r now from boot report in
     let still : LeaseStep = record { state = asking r; news = nothing } in
@@ -97,7 +97,7 @@ written_so location r now from boot stored =
     let taken = on_acceptance r from boot in
     either P taken.wins (round_won taken.round now) (written_still taken.round) (won_so location taken.round now stored) tt
 
-writing_so : (location : Option Location) (r : Round) (now : ℕ) (from : NodeId) (content : Payload) → IsStored location → holds_so now location (writing_answered r now from content)
+writing_so : (location : Option Location) (r : Round) (now : ℕ) (from : NodeId) (content : Payload) → IsStored location → holds_so now location (answer_writing r now from content)
 writing_so location r now from (payload.Promise file ballot boot report) stored =
     let promised = on_promise r now from boot report in
     let counted_on : LeaseStep = record { state = writing promised.round; news = news_of_targets r.ballot (lease_of r) (targets_of promised.took) } in

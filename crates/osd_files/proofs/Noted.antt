@@ -23,7 +23,7 @@ use Rattle.xt_protocol.specs.declared.states.Progress.TheVariants as progress
 use Rattle.xt_protocol.specs.declared.states.Tenure.{Tenure}
 use Rattle.xt_protocol.specs.ReplicaRows.{stage_record}
 use Rattle.xt_protocol.specs.Primaries.{Ground, Led, carries, is_unknown, majority_among, nodes_of, peer_in, reports_of, statuses_counted, with_node}
-use Rattle.xt_protocol.specs.PrimaryRows.{epoch_drawn, epoch_told, fetches, head_chosen, chooses, status_counted, status_told, with_state, hears_object, body_staged, body_missed, hears_missing, target_in, update_acked, acked_below, hears_ack, makes_current, hears_peer, hears_member, hears_epoch, hears_in, hears}
+use Rattle.xt_protocol.specs.PrimaryRows.{draw_epoch, message_epoch, fetches, choose_head, chooses, status_counted, take_status, with_state, hears_object, body_staged, body_missed, hears_missing, target_in, ack_update, acked_below, hears_ack, makes_current, hears_peer, hears_member, hears_epoch, hears_in, hears}
 use Rattle.replica_state.specs.Kept.{IsNotable}
 use Rattle.osd_invariants.proofs.Leads.{KeepsList, epoch_leads}
 use Rattle.osd_files.proofs.Drawn.{drawn}
@@ -44,7 +44,7 @@ module _ (row : FileRow) where
       one_of false = tt
 
   module _ (g : Ground) (low : g.place.node.0 < 2 ^ 32) (own : g.own ≡ row.head) where
-    again : (learnt : ℕ) (nodes : List NodeId) → Notes (epoch_drawn g.place learnt g.own nodes)
+    again : (learnt : ℕ) (nodes : List NodeId) → Notes (draw_epoch g.place learnt g.own nodes)
     again learnt nodes = drawn g.place learnt g.own nodes row low own
 
     module _ (learnt : ℕ) where
@@ -56,13 +56,13 @@ module _ (row : FileRow) where
       chose t [] = tt
       chose t (first ∷ others) = chosen _
         where
-          chosen : (best : NodeId × FileHead) → Notes (head_chosen g learnt t best)
+          chosen : (best : NodeId × FileHead) → Notes (choose_head g learnt t best)
           chosen best = either (best.0.0 == g.place.node.0) _ _ tt (fetched t best.1 best.0 _)
 
       counted : (t : Tenure) → Notes (status_counted g learnt t)
       counted t = either (nat_le (majority_among t.peers) (statuses_counted t.peers)) _ _ (chose t (reports_of t.peers)) tt
 
-      told : (t : Tenure) (p : Progress) (from : NodeId) (head : FileHead) → Notes (status_told g learnt t p from head)
+      told : (t : Tenure) (p : Progress) (from : NodeId) (head : FileHead) → Notes (take_status g learnt t p from head)
       told t progress.Gathering from head = counted (with_state t from (peer.Reported head))
       told t (progress.Fetching chosen source asked later) from head = tt
       told t (progress.Installing chosen acked) from head = tt
@@ -88,7 +88,7 @@ module _ (row : FileRow) where
       missing t (progress.Fetching chosen source asked later) from state v = either (from.0 == source.0) _ _ (again learnt (nodes_of t.peers)) tt
       missing t p from state v = missed t (target_in g.own t.epoch p) from state v
 
-      updated : (t : Tenure) (head : FileHead) (update : Update) (acked : List NodeId) → Notes (update_acked g learnt t head update acked)
+      updated : (t : Tenure) (head : FileHead) (update : Update) (acked : List NodeId) → Notes (ack_update g learnt t head update acked)
       updated t head update acked = either (carries g.place t.peers acked) _ _ tt tt
 
       below : (t : Tenure) (head : FileHead) (from : NodeId) (stamp : Stamp) (newly : Bool) (issued : Option IssuedUpdate) → Notes (acked_below g learnt t head from stamp newly issued)
@@ -123,7 +123,7 @@ module _ (row : FileRow) where
 
       in_tenure : (tenure : Option Tenure) (from : NodeId) (content : Payload) → Notes (hears_in g learnt tenure from content)
       in_tenure None from content = tt
-      in_tenure (Some t) from content = of_epoch t from (epoch_told content) content
+      in_tenure (Some t) from content = of_epoch t from (message_epoch content) content
 
 noted : (row : FileRow) (g : Ground) (p : PrimaryState) (from : NodeId) (content : Payload) → g.place.node.0 < 2 ^ 32 → g.own ≡ row.head → IfSome (hears g p from content).turned.rec (IsNotable row)
 unfolding hears
@@ -139,7 +139,7 @@ heard_notable row g p from content turned low own led =
 
 in_keeps : (g : Ground) (learnt : ℕ) (tenure : Option Tenure) (from : NodeId) (content : Payload) → KeepsList (hears_in g learnt tenure from content).turned.rec
 in_keeps g learnt None from content = λ row. refl
-in_keeps g learnt (Some t) from content = (epoch_leads (nodes_of t.peers) g learnt t from (epoch_told content) content refl).rec
+in_keeps g learnt (Some t) from content = (epoch_leads (nodes_of t.peers) g learnt t from (message_epoch content) content refl).rec
 
 pub heard_keeps : (g : Ground) (p : PrimaryState) (from : NodeId) (content : Payload) → KeepsList (hears g p from content).turned.rec
 unfolding hears

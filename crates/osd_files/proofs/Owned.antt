@@ -9,7 +9,7 @@ use Rattle.xt_base.specs.declared.ids.Lease.{Lease}
 use Rattle.xt_messages.specs.declared.message.Payload.{Payload}
 use Rattle.xt_messages.specs.declared.message.Payload.TheVariants as payload
 use Rattle.xt_protocol.specs.Register.{Round, Promised, Took, ignored, counted, write_to, alive, on_promise, report_taken, promise_counted, promise_ignored, same_ballot, lease_of, on_acceptance, with_promise, counted_pairs, majority_of, has_promise, report_after_write, live_report, bars, awaits_promise}
-use Rattle.xt_protocol.specs.LeaseRows.{LeaseState, LeaseStep, Held, Renewing, asked_by, Written, written_still, written_won, free, asking, writing, held, lease_expired, has_run_out, has_turn, is_inside, renewal_left, on_answer, renewal_under, renewal_answered, renewal_promised, renewal_accepted, renewal_ignores, renewal_outrun, asking_answered, writing_answered, step_of_asking, step_of_written, round_won, round_over, lease_won, won_too_late, outrun_learnt, can_ask, round_starts, is_renewal_due, renewal_starts, without_renewal, with_renewal, no_news, renewed, ends, nothing, news_of_targets, targets_of, writing_accepted}
+use Rattle.xt_protocol.specs.LeaseRows.{LeaseState, LeaseStep, Held, Renewing, asked_by, Written, written_still, written_won, free, asking, writing, held, lease_expired, has_run_out, has_turn, is_inside, renewal_left, on_answer, renewal_under, renewal_answered, renewal_promised, renewal_accepted, renewal_ignores, renewal_outrun, answer_asking, answer_writing, step_of_asking, step_of_written, round_won, round_over, lease_won, won_too_late, outrun_learnt, can_ask, round_starts, is_renewal_due, renewal_starts, without_renewal, with_renewal, no_news, renewed, ends, nothing, news_of_targets, targets_of, writing_accepted}
 use Rattle.flease.specs.Moves.{asks_at, renews_at}
 use Rattle.osd_files.specs.Owners.{Owner, owner_of, renewer_of, renewer_in, owner_of_round, owner_of_proposer}
 
@@ -58,7 +58,7 @@ took_own owner (write_to targets) r ballot lease own = record { lease = own; ren
 took_own owner (alive found) r ballot lease own = record { lease = own; renewal = refl }
 
 asking_own : (owner : Owner) (r : Round) (now : ℕ) (from : NodeId) (content : Payload) → owner_of_round r ≡ owner
-    → IsOwn owner (asking_answered r now from content).state
+    → IsOwn owner (answer_asking r now from content).state
 asking_own owner r now from (payload.Promise file ballot boot report) own =
     let P : LeaseStep → Type 0 = λ s. IsOwn owner s.state in
     let promised = on_promise r now from boot report in
@@ -88,7 +88,7 @@ written_own owner r now from boot own =
     either P taken.wins (round_won taken.round now) (written_still taken.round) (won_own owner taken.round now own) (record { lease = own; renewal = refl })
 
 writing_own : (owner : Owner) (r : Round) (now : ℕ) (from : NodeId) (content : Payload) → owner_of_round r ≡ owner
-    → IsOwn owner (writing_answered r now from content).state
+    → IsOwn owner (answer_writing r now from content).state
 writing_own owner r now from (payload.Promise file ballot boot report) own =
     let P : LeaseStep → Type 0 = λ s. IsOwn owner s.state in
     let promised = on_promise r now from boot report in

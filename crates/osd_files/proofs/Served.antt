@@ -14,7 +14,7 @@ use Rattle.xt_protocol.specs.ReplicaRows.{kept_after}
 use Rattle.xt_protocol.specs.Serving.{reads, writes}
 use Rattle.xt_protocol.specs.Turns.{quiet, joined}
 use Rattle.xt_protocol.specs.Asks.{Served, asked_already, is_read, read_answer, serves, write_done, waits}
-use Rattle.xt_protocol.specs.AskRows.{ask_rows, ask_served, ask_under, ask_waits}
+use Rattle.xt_protocol.specs.AskRows.{ask_rows, serve_ask, ask_under, ask_waits}
 use Rattle.osd_invariants.proofs.Kept.{served_none}
 use Rattle.osd_files.specs.Asking.{asks_once_done}
 use Rattle.osd_files.proofs.Rows.{when_true, when_false}
@@ -33,7 +33,7 @@ written site s ask so = when_false (is_read ask.op) _ _ so
 pub write_row : (site : Site) (s : FileState) (ask : WaitingAsk) (primary : PrimaryState) (turned : Turned) (asks : Asks) → is_read ask.op ≡ false
     → writes (ground_of site s) s.primary ask.id ask.epoch ask.op ≡ Some (record { primary = primary; turned = turned })
     → asks ≡ asks_once_done s.asks (is_some (issued_by primary.tenure)) ask
-    → ask_served site s ask ≡ record { state = record s { primary = primary; asks = asks }; turned = turned }
+    → serve_ask site s ask ≡ record { state = record s { primary = primary; asks = asks }; turned = turned }
 write_row site s ask primary turned asks so led marked =
     let left = waits s.asks ask in
     let done : Served = record { primary = primary; asks = asks_once_done s.asks (is_some (issued_by primary.tenure)) ask; turned = joined quiet turned } in
@@ -46,7 +46,7 @@ write_row site s ask primary turned asks so led marked =
 -- a write meets an issued one
 pub write_waits : (site : Site) (s : FileState) (ask : WaitingAsk) (asks : Asks) → is_read ask.op ≡ false
     → writes (ground_of site s) s.primary ask.id ask.epoch ask.op ≡ None → asks ≡ waits s.asks ask
-    → ask_served site s ask ≡ record { state = record s { asks = asks }; turned = quiet }
+    → serve_ask site s ask ≡ record { state = record s { asks = asks }; turned = quiet }
 write_waits site s ask asks so led wait =
     let left = waits s.asks ask in
     let by : Asks → FileStep = λ x. record { state = record s { asks = x }; turned = quiet } in
@@ -54,7 +54,7 @@ write_waits site s ask asks so led wait =
 
 -- a read is answered, and the file stays as it is
 pub read_row : (site : Site) (s : FileState) (ask : WaitingAsk) → is_read ask.op ≡ true
-    → ask_served site s ask ≡ record { state = s; turned = read_answer (ground_of site s) ask.id (reads (ground_of site s) s.primary ask.op) }
+    → serve_ask site s ask ≡ record { state = s; turned = read_answer (ground_of site s) ask.id (reads (ground_of site s) s.primary ask.op) }
 read_row site s ask so =
     let left = waits s.asks ask in
     let turned = read_answer (ground_of site s) ask.id (reads (ground_of site s) s.primary ask.op) in
@@ -88,7 +88,7 @@ pub has_turn_then : (l : LeaseState) (now : ℕ) (active : Bool) → (is_some (t
 has_turn_then l now active is = and_first _ _ is
 
 pub serves_under : (site : Site) (s : FileState) (l : LeaseState) (ask : WaitingAsk) → (is_some (turn_of l site.now) && is_active s.primary.tenure) ≡ true
-    → ask_under site s l ask ≡ ask_served site s ask
+    → ask_under site s l ask ≡ serve_ask site s ask
 serves_under site s (held h) ask is = when_true (is_active s.primary.tenure) _ _ (and_second (is_some (turn_of (held h) site.now)) _ is)
 serves_under site s (free p) ask is = absurd cc
 serves_under site s (asking r) ask is = absurd cc

@@ -52,7 +52,7 @@ fn read_answer(
 }
 
 /// A read in a turn of the primary. The file stays as it is.
-pub fn read_served<B: Bodies>(
+pub fn serve_read<B: Bodies>(
     file: &Parts,
     bodies: &mut B,
     now: u64,
@@ -154,7 +154,7 @@ fn serve_write<B: Bodies>(
     requires stored { IsStored file.old.lead.location }
     requires fits { FitsOp ask.op }
     ensures row { IfOk result (λ turned. is_read ask.op ≡ false →
-        IsRowBy (λ site s. rows.ask_served site s ask) now (body_by (B.records bodies.old))
+        IsRowBy (λ site s. rows.serve_ask site s ask) now (body_by (B.records bodies.old))
         (shown file.old) (shown file.new) turned) }
     ensures reads { ReadsOnly B.records B.fault_count bodies.old bodies.new (fault_of result) }
 {
@@ -172,7 +172,7 @@ fn serve_write<B: Bodies>(
 }
 
 /// Read served, or the rows for writes; a write that meets an issued one waits.
-fn ask_served<B: Bodies>(
+fn serve_ask<B: Bodies>(
     file: &mut Parts,
     bodies: &mut B,
     now: u64,
@@ -183,14 +183,14 @@ fn ask_served<B: Bodies>(
     requires stored { IsStored file.old.lead.location }
     requires fits { FitsOp ask.op }
     ensures row { IfOk result (λ turned.
-        IsRowBy (λ site s. rows.ask_served site s ask) now (body_by (B.records bodies.old))
+        IsRowBy (λ site s. rows.serve_ask site s ask) now (body_by (B.records bodies.old))
         (shown file.old) (shown file.new) turned) }
     ensures reads { ReadsOnly B.records B.fault_count bodies.old bodies.new (fault_of result) }
 {
     if !is_read(&ask.op) {
         return serve_write(file, bodies, now, ask);
     }
-    read_served(file, bodies, now, &ask)
+    serve_read(file, bodies, now, &ask)
 }
 
 /// Whether the node holds the lease, and its primary is active.
@@ -225,7 +225,7 @@ fn ask_rows<B: Bodies>(
         return Ok(ask_without_lease(file, now, ask)?);
     }
     if may_serve(&file.lease, &file.lead, now) {
-        return ask_served(file, bodies, now, ask);
+        return serve_ask(file, bodies, now, ask);
     }
     Ok(ask_waits(file, ask)?)
 }
@@ -273,7 +273,7 @@ fn let_in<B: Bodies>(
 }
 
 /// An ask on a replicated file, where `sealed` says whether the capability's tag is the key's: it is refused, or let in.
-pub fn ask_handled<B: Bodies>(
+pub fn handle_ask<B: Bodies>(
     file: &mut Parts,
     bodies: &mut B,
     now: u64,
@@ -287,7 +287,7 @@ pub fn ask_handled<B: Bodies>(
     requires stripe { FitsStripe capability.now.location.stripe }
     requires fits { FitsOp op.now }
     ensures row { IfOk result (λ turned. (test : Capability → Bool) → test capability.now ≡ sealed →
-        IsStep (λ site s. rows.ask_handled site s id capability.now op.now)
+        IsStep (λ site s. rows.handle_ask site s id capability.now op.now)
         (site_at file.old.awake now test (body_by (B.records bodies.old))) (shown file.old)
         (shown file.new) turned) }
     ensures reads { ReadsOnly B.records B.fault_count bodies.old bodies.new (fault_of result) }

@@ -5,7 +5,7 @@ ghost use Rattle.xt_protocol.specs.Primaries as rows;
 ghost use Rattle.xt_messages.specs.declared.reply.Reply.TheVariants as reply;
 ghost use Rattle.xt_base.specs.declared.ids.NodeId.{NodeId};
 ghost use Rattle.xt_base.specs.declared.ids.FileId.{FileId};
-ghost use Rattle.xt_protocol.specs.PrimaryRows.{epoch_drawn, hears};
+ghost use Rattle.xt_protocol.specs.PrimaryRows.{draw_epoch, hears};
 ghost use Rattle.xt_protocol.specs.Serving.{reads, wakes, writes};
 ghost use Rattle.std.specs.Option.{option_map};
 ghost use Rattle.xt_messages.specs.Limits.{FitsOp};
@@ -242,11 +242,11 @@ impl Lead {
         requires stored { IsStored self.old.location }
         ensures state { IfOk result (λ led. self.new ≡
             record self.old {
-              primary = (epoch_drawn (place_of self.old) self.old.primary.learnt own.now
+              primary = (draw_epoch (place_of self.old) self.old.primary.learnt own.now
                   (members_of self.old.location)).primary;
             }) }
         ensures led { IfOk result (λ led. led ≡
-            (epoch_drawn (place_of self.old) self.old.primary.learnt own.now
+            (draw_epoch (place_of self.old) self.old.primary.learnt own.now
             (members_of self.old.location)).turned) }
         ensures same { OnErr result (self.new ≡ self.old) }
     {

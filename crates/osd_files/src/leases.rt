@@ -116,9 +116,9 @@ fn write_comes(
 }
 
 /// The asks that wait get this answer.
-fn waiting_told(file: &mut Parts, reply: &Reply) -> Result<Turned, OutOfMemory>
+fn answer_waiting(file: &mut Parts, reply: &Reply) -> Result<Turned, OutOfMemory>
     ensures { IfOk result (λ turned. (now : ℕ) →
-        IsRow (λ site s. rows.waiting_told site s reply.now) now (shown file.old) (shown file.new)
+        IsRow (λ site s. rows.answer_waiting site s reply.now) now (shown file.old) (shown file.new)
         turned) }
 {
     let (alloc, node, id) = (file.alloc, file.awake.node(), file.replica.file());
@@ -134,13 +134,13 @@ fn live_lease(file: &mut Parts, lease: Lease) -> Result<Turned, OutOfMemory>
 {
     if lease.node.0 == file.awake.node().0 {
         let reply = Reply::NoLease { end: file.last_end };
-        return waiting_told(file, &reply);
+        return answer_waiting(file, &reply);
     }
     let reply = Reply::Elsewhere {
         node: lease.node,
         end: lease.end,
     };
-    waiting_told(file, &reply)
+    answer_waiting(file, &reply)
 }
 
 /// A Write of the lease to each of these.
@@ -281,7 +281,7 @@ fn lease_news(file: &mut Parts, now: u64, news: News) -> Result<Turned, OutOfMem
         News::Finds { lease } => live_lease(file, lease),
         News::Ends => {
             let reply = Reply::NoLease { end: file.last_end };
-            waiting_told(file, &reply)
+            answer_waiting(file, &reply)
         }
     }
 }

@@ -10,7 +10,7 @@ ghost use Rattle.osd_files.specs.Answers.{HasTurn};
 ghost use Rattle.osd_files.specs.Serves.{AsksFollow, AsksWait, ServesAll, ServesNext, ServesOne};
 ghost use Rattle.osd_files.specs.Views.{shown};
 
-use crate::asks::{mark_issued, read_served};
+use crate::asks::{mark_issued, serve_read};
 use crate::joining::join_rest;
 use crate::lead::Lead;
 use crate::parts::Parts;
@@ -67,7 +67,7 @@ fn serve_one<B: Bodies>(
     ensures reads { ReadsOnly B.records B.fault_count bodies.old bodies.new (fault_of result) }
 {
     if is_read(&ask.op) {
-        return read_served(file, bodies, now, &ask);
+        return serve_read(file, bodies, now, &ask);
     }
     if file.asks.has_issued() {
         file.asks.stay(ask)?;

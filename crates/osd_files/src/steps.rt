@@ -9,14 +9,14 @@ ghost use Rattle.osd_files.specs.Rows.{IsStep};
 ghost use Rattle.osd_files.specs.Views.{shown, site_at};
 ghost use Rattle.osd_files.specs.Whole.{IsRowOn, IsWhole};
 
-use crate::asks::ask_handled;
+use crate::asks::handle_ask;
 use crate::hearing::{fetch_comes, replica_comes};
 use crate::joining::join_rest;
 use crate::leading::primary_hears;
 use crate::leases::{lease_comes, stay_in_range};
 use crate::overdue::expire;
 use crate::parts::Parts;
-use crate::striped::striped_handled;
+use crate::striped::handle_striped;
 use object_versions::{Bodies, StepErr};
 use xt_base::{NodeId, OpId};
 use xt_messages::{Capability, Kind, Op, Payload};
@@ -45,8 +45,8 @@ fn ask_comes<B: Bodies>(
     ensures reads { ReadsOnly B.records B.fault_count bodies.old bodies.new (fault_of result) }
 {
     match capability.location.kind {
-        Kind::Replicated => ask_handled(file, bodies, now, sealed, id, capability, op),
-        Kind::Striped => striped_handled(file, bodies, now, sealed, id, capability, op),
+        Kind::Replicated => handle_ask(file, bodies, now, sealed, id, capability, op),
+        Kind::Striped => handle_striped(file, bodies, now, sealed, id, capability, op),
     }
 }
 

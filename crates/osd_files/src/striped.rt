@@ -77,7 +77,7 @@ fn member_acts<B: Bodies>(
     requires fits { FitsOp op.now }
     ensures row { IfOk result (λ acted. (test : Capability → Bool) → test capability.now ≡ sealed →
         acted ≡
-        rows.striped_handled (site_at file.now.awake now test (body_by (B.records bodies.old)))
+        rows.handle_striped (site_at file.now.awake now test (body_by (B.records bodies.old)))
         (shown file.now).state.kept id capability.now op.now) }
     ensures notable { IfOk result (λ acted. IfSome acted.rec (IsNotable file.now.replica)) }
     ensures reads { ReadsOnly B.records B.fault_count bodies.old bodies.new (fault_of result) }
@@ -94,7 +94,7 @@ fn member_acts<B: Bodies>(
 }
 
 /// An ask on a striped file: the replica takes the update that the member made, and the client is sent the reply.
-pub fn striped_handled<B: Bodies>(
+pub fn handle_striped<B: Bodies>(
     file: &mut Parts,
     bodies: &mut B,
     now: u64,

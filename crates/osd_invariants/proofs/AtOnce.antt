@@ -42,10 +42,10 @@ use Rattle.xt_protocol.specs.declared.states.WaitingAsk.{WaitingAsk}
 use Rattle.xt_protocol.specs.Turns.{joined, keeps, message, quiet, reply_to, sends, shows, to_each}
 use Rattle.xt_protocol.specs.ReplicaRows.{kept_after}
 use Rattle.xt_protocol.specs.Primaries.{Ground, Led, carries, is_active, is_active_in, is_ready, peer_in, with_node, with_peer}
-use Rattle.xt_protocol.specs.PrimaryRows.{committed, goes_on, hears, hears_ack, hears_in, hears_member, makes_current, unmoved, update_acked, with_state}
+use Rattle.xt_protocol.specs.PrimaryRows.{committed, goes_on, hears, hears_ack, hears_in, hears_member, makes_current, unmoved, ack_update, with_state}
 use Rattle.xt_protocol.specs.Serving.{reads, reads_in, reads_under, writes}
 use Rattle.xt_protocol.specs.Asks.{Served, asked_already, asks_behind, asks_follow, is_issued_ask, is_id, is_read, read_answer, serves_all, waits, write_done}
-use Rattle.xt_protocol.specs.AskRows.{ask_handled, ask_let_in, ask_rows, ask_served, ask_under, ask_waits, ask_without_lease, elsewhere, reads_of, refusal_of, view_record, waiting_ask}
+use Rattle.xt_protocol.specs.AskRows.{handle_ask, ask_let_in, ask_rows, serve_ask, ask_under, ask_waits, ask_without_lease, elsewhere, reads_of, refusal_of, view_record, waiting_ask}
 use Rattle.xt_protocol.specs.FileLeases.{answer_comes, end_after_answer, lease_held, lease_news, led_on}
 use Rattle.xt_protocol.specs.FileStates.{FileState, Site, FileStep, ground_of, members_of, serves_to, steps_to}
 use Rattle.xt_protocol.specs.FileStates as files
@@ -162,7 +162,7 @@ view_file s location (Some stored) = refl
 
 new_ask : (site : Site) (s : FileState) (from : NodeId) (number : ℕ) (capability : Capability) (asked : Op) → IsNewAsk site s (record { client = from; number = number }) capability asked
     → sent (message_comes site s from (payload.Ask number capability asked)) ≡ sent (ask_rows site (let_in site s capability) (waiting_ask site (record { client = from; number = number }) capability.epoch asked))
-unfolding ask_handled
+unfolding handle_ask
 new_ask site s from number capability asked new =
     let id : OpId = record { client = from; number = number } in
     ap (λ (k : Kind). sent (ask_comes site s k id capability asked)) new.replicated
@@ -212,7 +212,7 @@ read_told site s h ask reads_it is new active =
       said.2,
       ap (λ (b : Bool). sent (cond b (files.nothing s) (ask_under site s s.lease ask))) new
           ∙ ap (λ (l : LeaseState). sent (ask_under site s l ask)) is
-          ∙ ap (λ (b : Bool). sent (cond b (ask_served site s ask) (ask_waits s ask))) active
+          ∙ ap (λ (b : Bool). sent (cond b (serve_ask site s ask) (ask_waits s ask))) active
           ∙ ap (λ (b : Bool). sent (serves_to s (cond b answer written))) reads_it
           ∙ ap (λ (o : Option Reply). (read_answer g ask.id o).outs) said.3,
     )
@@ -393,7 +393,7 @@ commit_sent g p from file stamp t head issued state led active member epoch cove
     ∙ ap (λ (b : Bool). outs (cond b (hears_member g learnt t from (peer_in t.peers from) content) (unmoved learnt t))) epoch
     ∙ ap (λ (o : Option PeerState). outs (hears_member g learnt t from o content)) member
     ∙ ap (λ (q : Progress). outs (hears_ack g learnt t q from newly stamp)) active
-    ∙ ap (λ (b : Bool). outs (cond (not b) (update_acked g learnt later head issued.update acked) more)) covers
+    ∙ ap (λ (b : Bool). outs (cond (not b) (ack_update g learnt later head issued.update acked) more)) covers
     ∙ ap (λ (b : Bool). outs (cond b (committed g learnt later issued.update) still)) (ap enough (newly_count t from newly) ∙ carried)
 
 pub answers_writes : (site : Site) (s : FileState) (from : NodeId) (file : FileId) (stamp : Stamp) → InTurn site s → (c : Completes site s from stamp)

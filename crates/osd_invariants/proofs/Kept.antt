@@ -33,8 +33,8 @@ use Rattle.xt_protocol.specs.Serving.{reads, writes, writes_under, writes_in, wr
 use Rattle.xt_protocol.specs.Asks.{Served, serves, waits, write_done, read_answer, is_read, asked_already}
 use Rattle.xt_protocol.specs.FileStates.{FileState, Site, FileStep, serves_to, ground_of, steps_to, and_then}
 use Rattle.xt_protocol.specs.Overdue.{expired, lease_became, deadlines_under}
-use Rattle.xt_protocol.specs.AskRows.{ask_handled, ask_let_in, ask_rows, ask_under, ask_without_lease, refusal_of, elsewhere, view_record, waiting_ask}
-use Rattle.xt_protocol.specs.FileLeases.{read_comes, write_comes, answer_comes, end_after_answer, lease_news, led_on, waiting_told}
+use Rattle.xt_protocol.specs.AskRows.{handle_ask, ask_let_in, ask_rows, ask_under, ask_without_lease, refusal_of, elsewhere, view_record, waiting_ask}
+use Rattle.xt_protocol.specs.FileLeases.{read_comes, write_comes, answer_comes, end_after_answer, lease_news, led_on, answer_waiting}
 use Rattle.xt_protocol.specs.FileSteps.{step_of_file, message_comes, ask_comes, primary_hears, renews, wakes_under_lease, wake_of_file}
 use Rattle.osd_invariants.specs.Keeping.{FollowsRecord}
 
@@ -170,7 +170,7 @@ let_in_follows site s id capability asked None =
     (λ t. rows_quiet site t (waiting_ask site id capability.epoch asked))
 
 kind_follows : (site : Site) (s : FileState) (k : Kind) (id : OpId) (capability : Capability) (asked : Op) → FollowsRecord s.kept (ask_comes site s k id capability asked)
-unfolding ask_handled
+unfolding handle_ask
 kind_follows site s kind.Replicated id capability asked = let_in_follows site s id capability asked (refusal_of site s.kept.location capability asked)
 kind_follows site s kind.Striped id capability asked = refl
 
@@ -185,8 +185,8 @@ news_follows site s lease.nothing = refl
 news_follows site s (sends_write ballot l targets) = refl
 news_follows site s (holds end) = led_on_follows site (record s { last_end = end }) s.primary.tenure
 news_follows site s (finds l) =
-    either (FollowsRecord s.kept) (l.node.0 == site.node.0) {x = waiting_told site s (reply.NoLease s.last_end)}
-    {y = waiting_told site s (reply.Elsewhere l.node l.end)} refl refl
+    either (FollowsRecord s.kept) (l.node.0 == site.node.0) {x = answer_waiting site s (reply.NoLease s.last_end)}
+    {y = answer_waiting site s (reply.Elsewhere l.node l.end)} refl refl
 news_follows site s ends = refl
 
 answer_follows : (site : Site) (s : FileState) (from : NodeId) (content : Payload) → FollowsRecord s.kept (answer_comes site s from content)

@@ -24,7 +24,7 @@ use Rattle.xt_protocol.specs.declared.states.Tenure.{Tenure}
 use Rattle.xt_protocol.specs.Stamps.{has_version, is_epoch, is_earlier, is_below, is_version}
 use Rattle.xt_protocol.specs.ReplicaRows.{kept_after, stage_record}
 use Rattle.xt_protocol.specs.Primaries.{Ground, Led, carries, is_unknown, is_ready, is_ready_in, is_active, is_active_in, issued_in, issued_by, majority_among, nodes_of, peer_in, reports_of, statuses_counted, target_of, unknown_peer, with_node, with_peer}
-use Rattle.xt_protocol.specs.PrimaryRows.{epoch_drawn, epoch_above, installs, peers_fed, fetches, head_chosen, chooses, status_counted, feeds, status_told, with_state, body_fetched, body_beyond, hears_object, body_staged, body_missed, hears_missing, target_in, update_acked, acked_below, hears_ack, makes_current, hears_peer, hears_member, hears_epoch, unmoved}
+use Rattle.xt_protocol.specs.PrimaryRows.{draw_epoch, epoch_above, installs, feed_peers, fetches, choose_head, chooses, status_counted, feeds, take_status, with_state, take_body, body_beyond, hears_object, body_staged, body_missed, hears_missing, target_in, ack_update, acked_below, hears_ack, makes_current, hears_peer, hears_member, hears_epoch, unmoved}
 use Rattle.osd_invariants.specs.Sound.{PeersAre}
 
 -- a record that leaves the list
@@ -62,7 +62,7 @@ fresh_nodes : (nodes : List NodeId) → nodes_of (map unknown_peer nodes) ≡ no
 fresh_nodes [] = refl
 fresh_nodes (n ∷ ns) = ap (λ others. n ∷ others) (fresh_nodes ns)
 
-fed_nodes : (g : Ground) (target : FileHead) (peers : List Peer) → nodes_of (peers_fed g target peers) ≡ nodes_of peers
+fed_nodes : (g : Ground) (target : FileHead) (peers : List Peer) → nodes_of (feed_peers g target peers) ≡ nodes_of peers
 fed_nodes g target [] = refl
 fed_nodes g target (p ∷ ps) = ap (λ others. p.node ∷ others) (fed_nodes g target ps)
 
@@ -82,8 +82,8 @@ still : (members : List NodeId) (learnt : ℕ) (t : Tenure) → nodes_of t.peers
 still members learnt t nodes = record { rec = λ row. refl; peers = nodes; moved = went_on (same_itself (issued_in t.progress)) refl refl }
 
 pub drawn_leads : (members : List NodeId) (p : Progress) (place : Place) (learnt : ℕ) (own : FileHead) (nodes : List NodeId) → nodes ≡ members
-    → Leads members p (epoch_drawn place learnt own nodes)
-unfolding epoch_drawn
+    → Leads members p (draw_epoch place learnt own nodes)
+unfolding draw_epoch
 drawn_leads members p place learnt own nodes are =
     either members p (nat_lt (epoch_above place learnt own).number COUNTS) _ _
     (record { rec = λ row. refl; peers = fresh_nodes nodes ∙ are; moved = unready refl }) (record { rec = λ row. refl; peers = tt; moved = unready refl })
@@ -99,7 +99,7 @@ fetches_leads members p g learnt t chosen source [] nodes = installs_leads membe
 fetches_leads members p g learnt t chosen source (v ∷ later) nodes = record { rec = λ row. refl; peers = nodes; moved = unready refl }
 
 chosen_leads : (members : List NodeId) (p : Progress) (g : Ground) (learnt : ℕ) (t : Tenure) (best : NodeId × FileHead) → nodes_of t.peers ≡ members
-    → Leads members p (head_chosen g learnt t best)
+    → Leads members p (choose_head g learnt t best)
 chosen_leads members p g learnt t best nodes =
     either members p (best.0.0 == g.place.node.0) _ _ (installs_leads members p g learnt t best.1 nodes) (fetches_leads members p g learnt t best.1 best.0 _ nodes)
 
@@ -123,7 +123,7 @@ feeds_leads members g learnt t node target known nodes =
     record { rec = λ row. refl; peers = at_peer members t node _ nodes; moved = went_on (same_itself (issued_in t.progress)) refl refl }
 
 told_leads : (members : List NodeId) (g : Ground) (learnt : ℕ) (t : Tenure) (p : Progress) (from : NodeId) (head : FileHead) → nodes_of t.peers ≡ members
-    → Leads members t.progress (status_told g learnt t p from head)
+    → Leads members t.progress (take_status g learnt t p from head)
 told_leads members g learnt t progress.Gathering from head nodes =
     counted_leads members g learnt (with_state t from (peer.Reported head)) (at_peer members t from _ nodes)
 told_leads members g learnt t (progress.Fetching chosen source asked later) from head nodes =
@@ -140,7 +140,7 @@ staged_list g object version bytes row = one_of (has_version g.held (body_of obj
 
 fetched_leads : (members : List NodeId) (p : Progress) (g : Ground) (learnt : ℕ) (t : Tenure) (chosen : FileHead) (source : NodeId) (later : List ObjectVersion)
     (object : ℕ) (version : Stamp) (bytes : List ℕ) → nodes_of t.peers ≡ members
-    → Leads members p (body_fetched g learnt t chosen source later object version bytes)
+    → Leads members p (take_body g learnt t chosen source later object version bytes)
 fetched_leads members p g learnt t chosen source later object version bytes nodes =
     let q = fetches_leads members p (record g { body = body_beyond g.place.file (stage_record g.place.file g.held object version bytes) g.body }) learnt t chosen source later nodes in
     record { rec = staged_list g object version bytes; peers = q.peers; moved = q.moved }
@@ -180,7 +180,7 @@ as_before members p t led nodes is goes none =
     }
 
 update_acked_leads : (members : List NodeId) (g : Ground) (learnt : ℕ) (t : Tenure) (head : FileHead) (issued : IssuedUpdate) (acked : List NodeId)
-    → nodes_of t.peers ≡ members → Leads members (progress.Active head (Some issued)) (update_acked g learnt t head issued.update acked)
+    → nodes_of t.peers ≡ members → Leads members (progress.Active head (Some issued)) (ack_update g learnt t head issued.update acked)
 update_acked_leads members g learnt t head issued acked nodes =
     either members (progress.Active head (Some issued)) (carries g.place t.peers acked) _ _
     (record { rec = λ row. refl; peers = nodes; moved = readied refl refl }) (record { rec = λ row. refl; peers = nodes; moved = went_on refl refl refl })

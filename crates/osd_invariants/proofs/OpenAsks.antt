@@ -14,9 +14,9 @@ use Rattle.xt_messages.specs.declared.reply.Reply.{Reply}
 use Rattle.xt_messages.specs.declared.reply.Reply.TheVariants as reply
 use Rattle.xt_protocol.specs.LeaseRows.{LeaseState, Proposer, free, asking, writing, held, LeaseNews, sends_write, holds, finds, ends, on_answer, can_ask, round_starts, is_renewal_due, lease_expired}
 use Rattle.xt_protocol.specs.LeaseRows as lease
-use Rattle.xt_protocol.specs.AskRows.{reads_of, ask_waits, ask_served, elsewhere, ask_without_lease, ask_under, ask_rows, ask_let_in, refusal_of, ask_handled, waiting_ask}
+use Rattle.xt_protocol.specs.AskRows.{reads_of, ask_waits, serve_ask, elsewhere, ask_without_lease, ask_under, ask_rows, ask_let_in, refusal_of, handle_ask, waiting_ask}
 use Rattle.xt_protocol.specs.Asks.{Served, WAITING, no_asks, waits, stays, is_read, newly_issued, write_done, serves, serves_waiting, serves_all, comes_back, asks_follow, asked_already}
-use Rattle.xt_protocol.specs.FileLeases.{read_comes, write_comes, answer_comes, end_after_answer, waiting_told, led_on, lease_news}
+use Rattle.xt_protocol.specs.FileLeases.{read_comes, write_comes, answer_comes, end_after_answer, answer_waiting, led_on, lease_news}
 use Rattle.xt_protocol.specs.FileStates.{FileState, Site, FileStep, nothing, steps_to, members_of, ground_of}
 use Rattle.xt_protocol.specs.FileSteps.{ask_comes, primary_hears, message_comes, step_of_file, wakes_under_lease, wake_of_file}
 use Rattle.xt_protocol.specs.Overdue.{is_due, issued_due, deadlines_under, lease_became, expired}
@@ -148,7 +148,7 @@ module _ (P : WaitingAsk → Type 0) where
 
     under_are : (s : FileState) (l : LeaseState) (ask : WaitingAsk) → Are s.asks → P ask → Stay (ask_under site s l ask)
     under_are s (held h) ask are of =
-        either_step (is_active s.primary.tenure) (ask_served site s ask) (ask_waits s ask)
+        either_step (is_active s.primary.tenure) (serve_ask site s ask) (ask_waits s ask)
         (serves_are (ground_of site s) (record { primary = s.primary; asks = s.asks; turned = quiet }) ask (waits s.asks ask) are (waits_are s.asks ask are of) of) (waits_are s.asks ask are of)
     under_are s (asking r) ask are of = waits_are s.asks ask are of
     under_are s (writing r) ask are of = waits_are s.asks ask are of
@@ -164,13 +164,13 @@ module _ (P : WaitingAsk → Type 0) where
 
     asks_are : (s : FileState) (k : Kind) (id : OpId) (capability : Capability) (asked : Op) → Are s.asks
         → ((deadline : ℕ) → P (record { id = id; epoch = capability.epoch; op = asked; deadline = deadline })) → Stay (ask_comes site s k id capability asked)
-    unfolding ask_handled
+    unfolding handle_ask
     asks_are s kind.Replicated id capability asked are of = let_in_are s id capability asked (refusal_of site s.kept.location capability asked) are of
     asks_are s kind.Striped id capability asked are of = are
 
     -- ---- the lease
 
-    told_are : (s : FileState) (answer : Reply) → Are s.asks → Stay (waiting_told site s answer)
+    told_are : (s : FileState) (answer : Reply) → Are s.asks → Stay (answer_waiting site s answer)
     told_are s answer are = record { waiting = tt; issued = are.issued }
 
     led_are : (s : FileState) (o : Option Tenure) → Are s.asks → Stay (led_on site s o)
@@ -182,7 +182,7 @@ module _ (P : WaitingAsk → Type 0) where
     news_are s (sends_write ballot l targets) are = are
     news_are s (holds end) are = led_are (record s { last_end = end }) s.primary.tenure are
     news_are s (finds l) are =
-        either_step (l.node.0 == site.node.0) (waiting_told site s (reply.NoLease s.last_end)) (waiting_told site s (reply.Elsewhere l.node l.end))
+        either_step (l.node.0 == site.node.0) (answer_waiting site s (reply.NoLease s.last_end)) (answer_waiting site s (reply.Elsewhere l.node l.end))
         (told_are s (reply.NoLease s.last_end) are) (told_are s (reply.Elsewhere l.node l.end) are)
     news_are s ends are = told_are s (reply.NoLease s.last_end) are
 

@@ -28,7 +28,7 @@ use Rattle.xt_base.specs.declared.TheConstants.{COUNTS}
 use Rattle.xt_protocol.specs.Heads.{head_after}
 use Rattle.xt_protocol.specs.Folds.{body_of}
 use Rattle.xt_protocol.specs.Register.{Round, same_ballot, lease_of, on_promise}
-use Rattle.xt_protocol.specs.LeaseRows.{Awake, LeaseState, LeaseStep, LeaseNews, Proposer, Held, free, asking, writing, held, sends_write, holds, finds, ends, lease_expired, has_run_out, has_turn, round_over, renewal_left, on_answer, can_ask, is_renewal_due, round_starts, Asked, asked_still, asked_write, asked_found, Written, written_still, written_won, written_late, Renewal, no_news, renewal_write, renewed, step_of_asking, step_of_written, news_of_targets, news_of_renewal, asking_answered, asking_promised, writing_answered, writing_accepted, on_renewal, outrun_learnt}
+use Rattle.xt_protocol.specs.LeaseRows.{Awake, LeaseState, LeaseStep, LeaseNews, Proposer, Held, free, asking, writing, held, sends_write, holds, finds, ends, lease_expired, has_run_out, has_turn, round_over, renewal_left, on_answer, can_ask, is_renewal_due, round_starts, Asked, asked_still, asked_write, asked_found, Written, written_still, written_won, written_late, Renewal, no_news, renewal_write, renewed, step_of_asking, step_of_written, news_of_targets, news_of_renewal, answer_asking, asking_promised, answer_writing, writing_accepted, on_renewal, outrun_learnt}
 use Rattle.xt_protocol.specs.LeaseRows as lease
 use Rattle.xt_protocol.specs.declared.turned.Turned.{Turned}
 use Rattle.xt_protocol.specs.declared.states.Acted.{Acted}
@@ -43,14 +43,14 @@ use Rattle.xt_protocol.specs.Stamps.{is_epoch, is_earlier, is_below, has_version
 use Rattle.xt_protocol.specs.Turns.{quiet, keeps}
 use Rattle.xt_protocol.specs.ReplicaRows.{kept_after, gathered, staged, headed, updated, as_promised, head_offered, head_taken, update_offered, first_missing, head_fits, stage_record}
 use Rattle.xt_protocol.specs.Primaries.{Ground, Led, is_ready, is_active, issued_by, if_any}
-use Rattle.xt_protocol.specs.PrimaryRows.{epoch_drawn, epoch_above, hears, hears_in, hears_epoch, epoch_told}
+use Rattle.xt_protocol.specs.PrimaryRows.{draw_epoch, epoch_above, hears, hears_in, hears_epoch, message_epoch}
 use Rattle.xt_protocol.specs.Serving.{wakes}
 use Rattle.xt_protocol.specs.Asks.{Served, asks_follow, serves, waits, asked_already, WAITING}
 use Rattle.xt_protocol.specs.FileStates.{FileState, Site, FileStep, steps_to, serves_to, ground_of, members_of, file_from}
 use Rattle.xt_protocol.specs.Overdue.{expired, lease_became, deadlines_under, issued_due, is_due, no_lease_for_all}
-use Rattle.xt_protocol.specs.AskRows.{ask_handled, ask_let_in, ask_rows, ask_under, ask_without_lease, ask_waits, ask_served, round_for, refusal_of, elsewhere, view_record, waiting_ask}
-use Rattle.xt_protocol.specs.StripedRows.{striped_handled}
-use Rattle.xt_protocol.specs.FileLeases.{read_comes, write_comes, answer_comes, end_after_answer, lease_news, led_on, waiting_told}
+use Rattle.xt_protocol.specs.AskRows.{handle_ask, ask_let_in, ask_rows, ask_under, ask_without_lease, ask_waits, serve_ask, round_for, refusal_of, elsewhere, view_record, waiting_ask}
+use Rattle.xt_protocol.specs.StripedRows.{handle_striped}
+use Rattle.xt_protocol.specs.FileLeases.{read_comes, write_comes, answer_comes, end_after_answer, lease_news, led_on, answer_waiting}
 use Rattle.xt_protocol.specs.FileSteps.{step_of_file, message_comes, ask_comes, primary_hears, replica_acts, renews, wakes_under_lease, wake_of_file}
 use Rattle.osd_invariants.specs.Sound.{IsHeld, LedUnder, AreOne, WaitsUnder, IsStored, ListUnder, PeersAre, IsSound}
 use Rattle.osd_invariants.proofs.Kept.{served_none, wake_keeps}
@@ -222,7 +222,7 @@ active_has : {P : Type 0} (o : Option Tenure) → is_active o ≡ true → ((t :
 active_has None a then = absurd (false_true a)
 active_has (Some t) a then = then t refl
 
-served_ask : (site : Site) (s : FileState) (ask : WaitingAsk) → IsHeld s.lease → is_active s.primary.tenure ≡ true → IsSound s → IsSound (ask_served site s ask).state
+served_ask : (site : Site) (s : FileState) (ask : WaitingAsk) → IsHeld s.lease → is_active s.primary.tenure ≡ true → IsSound s → IsSound (serve_ask site s ask).state
 served_ask site s ask is active q =
     let g = ground_of site s in
     let before : Served = record { primary = s.primary; asks = s.asks; turned = quiet } in
@@ -262,7 +262,7 @@ by_test P false x y p q = q refl
 under_so : (site : Site) (s : FileState) (l : LeaseState) (ask : WaitingAsk) → s.lease ≡ l → IsStored s.kept.location → IsSound s → IsSound (ask_under site s l ask).state
 under_so site s (held h) ask is stored q =
     let has : IsHeld s.lease = subst IsHeld (sym is) tt in
-    by_test (λ step. IsSound step.state) (is_active s.primary.tenure) (ask_served site s ask) (ask_waits s ask) (λ active. served_ask site s ask has active q)
+    by_test (λ step. IsSound step.state) (is_active s.primary.tenure) (serve_ask site s ask) (ask_waits s ask) (λ active. served_ask site s ask has active q)
     (λ no_more. unserved s ask (waits_if s.lease (waits s.asks ask).waiting has) (inactive s.primary.tenure no_more).unready q)
 under_so site s (asking r) ask is stored q =
     unserved s ask (subst (λ (l : LeaseState). WaitsUnder l (waits s.asks ask).waiting) (sym is) tt)
@@ -313,16 +313,16 @@ let_in_so site s id capability asked None q =
     (waiting_ask site id capability.epoch asked) v.stored v.sound
 
 -- an ask on a striped file leaves the stored list
-striped_keeps : (site : Site) (row : FileRow) (id : OpId) (capability : Capability) (asked : Op) → KeepsList (striped_handled site row id capability asked).rec
+striped_keeps : (site : Site) (row : FileRow) (id : OpId) (capability : Capability) (asked : Op) → KeepsList (handle_striped site row id capability asked).rec
 striped_keeps site row id capability asked =
     striped_outcome (λ (acted : Acted). KeepsList acted.rec) site row id capability asked
     (record { nothing = λ r. refl; tells = λ answer r. refl; keeps = λ update is r. refl })
 
 kind_so : (site : Site) (s : FileState) (k : Kind) (id : OpId) (capability : Capability) (asked : Op) → IsSound s → IsSound (ask_comes site s k id capability asked).state
-unfolding ask_handled
+unfolding handle_ask
 kind_so site s kind.Replicated id capability asked q = let_in_so site s id capability asked (refusal_of site s.kept.location capability asked) q
 kind_so site s kind.Striped id capability asked q =
-    let acted = striped_handled site s.kept id capability asked in
+    let acted = handle_striped site s.kept id capability asked in
     kept_so s (record { rec = acted.rec; outs = if_any site.node id.client acted.answer; marks = [] }) (striped_keeps site s.kept id capability asked) q
 
 -- ---- the lease
@@ -360,7 +360,7 @@ asked_fit r ballot x (asked_still q) = record { led = λ i. i; waits = λ w i. i
 asked_fit r ballot x (asked_write q targets) = record { led = λ i. i; waits = λ w i. i; list = λ k i. i }
 asked_fit r ballot x (asked_found p found) = record { unheld = λ i. i; list = λ k. tt }
 
-asking_fit : (r : Round) (now : ℕ) (from : NodeId) (content : Payload) → StepFit (asking r) (asking_answered r now from content)
+asking_fit : (r : Round) (now : ℕ) (from : NodeId) (content : Payload) → StepFit (asking r) (answer_asking r now from content)
 asking_fit r now from (payload.Promise file ballot boot report) =
     either_fit (asking r) (same_ballot ballot r.ballot) _ _ (asked_fit r r.ballot (lease_of r) (asking_promised r now from boot report))
     (record { led = λ i. i; waits = λ w i. i; list = λ k i. i })
@@ -377,7 +377,7 @@ targets_fit : (r q : Round) (ballot : Ballot) (x : Lease) (targets : Option (Lis
 targets_fit r q ballot x None = record { led = λ i. i; waits = λ w i. i; list = λ k i. i }
 targets_fit r q ballot x (Some targets) = record { led = λ i. i; waits = λ w i. i; list = λ k i. i }
 
-writing_fit : (r : Round) (now : ℕ) (from : NodeId) (content : Payload) → StepFit (writing r) (writing_answered r now from content)
+writing_fit : (r : Round) (now : ℕ) (from : NodeId) (content : Payload) → StepFit (writing r) (answer_writing r now from content)
 writing_fit r now from (payload.Promise file ballot boot report) =
     either_fit (writing r) (same_ballot ballot r.ballot) _ _ (targets_fit r (on_promise r now from boot report).round r.ballot (lease_of r) (lease.targets_of (on_promise r now from boot report).took))
     (record { led = λ i. i; waits = λ w i. i; list = λ k i. i })
@@ -407,7 +407,7 @@ goes_on : (s : FileState) (l : LeaseState) → IsSound (record s { lease = l }) 
 goes_on s l q f =
     record { led = goes_led l s.lease s.primary.tenure f.led q.led; issued = q.issued; waits = f.waits s.asks.waiting q.waits; list = f.list s.kept.location q.list; peers = q.peers; ready = q.ready }
 
-told_so : (site : Site) (s : FileState) (l : LeaseState) (answer : Reply) → IsSound (record s { lease = l }) → IsOver l s.lease → IsSound (waiting_told site s answer).state
+told_so : (site : Site) (s : FileState) (l : LeaseState) (answer : Reply) → IsSound (record s { lease = l }) → IsOver l s.lease → IsSound (answer_waiting site s answer).state
 told_so site s l answer q f =
     record {
       led = unled l s.lease s.primary.tenure f.unheld q.led;
@@ -418,8 +418,8 @@ told_so site s l answer q f =
       ready = λ r. refl;
     }
 
-drawn_inactive : (place : Place) (learnt : ℕ) (own : FileHead) (members : List NodeId) → is_active (epoch_drawn place learnt own members).primary.tenure ≡ false
-unfolding epoch_drawn
+drawn_inactive : (place : Place) (learnt : ℕ) (own : FileHead) (members : List NodeId) → is_active (draw_epoch place learnt own members).primary.tenure ≡ false
+unfolding draw_epoch
 drawn_inactive place learnt own members = one_of (nat_lt (epoch_above place learnt own).number COUNTS) _ _ refl refl
   where
     one_of : (b : Bool) (x y : Led) → is_active x.primary.tenure ≡ false → is_active y.primary.tenure ≡ false → is_active (cond b x y).primary.tenure ≡ false
@@ -434,7 +434,7 @@ led_on_so : (site : Site) (s : FileState) (o : Option Tenure) → s.primary.tenu
 led_on_so site s (Some t) is has q = q
 led_on_so site s None is has q =
     let members = members_of s.kept.location in
-    let led = epoch_drawn (ground_of site s).place s.primary.learnt s.kept.head members in
+    let led = draw_epoch (ground_of site s).place s.primary.learnt s.kept.head members in
     let d = drawn_leads members progress.Gathering (ground_of site s).place s.primary.learnt s.kept.head members refl in
     let i = inactive led.primary.tenure (drawn_inactive (ground_of site s).place s.primary.learnt s.kept.head members) in
     kept_so (record s { primary = led.primary }) led.turned d.rec
@@ -521,7 +521,7 @@ heard_fits : (members : List NodeId) (g : Ground) (learnt : ℕ) (o : Option Ten
 heard_fits members g learnt None asks from content f =
     record { rec = λ r. refl; fits = back_fits members None asks tt (inactive None refl) }
 heard_fits members g learnt (Some t) asks from content f =
-    follow_fits members g t asks (hears_epoch g learnt t from (epoch_told content) content) f (epoch_leads members g learnt t from (epoch_told content) content f.peers)
+    follow_fits members g t asks (hears_epoch g learnt t from (message_epoch content) content) f (epoch_leads members g learnt t from (message_epoch content) content f.peers)
 
 primary_so : (site : Site) (s : FileState) (l : LeaseState) (from : NodeId) (content : Payload) → s.lease ≡ l → IsSound s → IsSound (primary_hears site s l from content).state
 unfolding hears

@@ -21,8 +21,8 @@ use Rattle.xt_protocol.specs.Heads.{head_after, plain_stamp}
 use Rattle.xt_protocol.specs.ReplicaRows.{head_fits, unanswered, only, after_record}
 use Rattle.xt_protocol.specs.Writes.{WriteStanding, repeated, older, turned_away, fresh, standing, update_of}
 use Rattle.xt_protocol.specs.AskRows.{capability_refused, leaves_object}
-use Rattle.xt_protocol.specs.PlainRows.{plain_refusal, read_served, write_stands, write_kept, refused_or, served, plain_step}
-use Rattle.xt_protocol.specs.StripedRows.{capability_range_list, range_and_list, unless_stored, member_acts, to_client, striped_refusal, striped_handled}
+use Rattle.xt_protocol.specs.PlainRows.{plain_refusal, serve_read, write_stands, write_kept, refused_or, served, plain_step}
+use Rattle.xt_protocol.specs.StripedRows.{capability_range_list, range_and_list, unless_stored, member_acts, to_client, striped_refusal, handle_striped}
 
 -- the client is sent a reply, and nothing is kept
 abbrev pub tells_client : FileRow → OpId → Reply → Acted
@@ -59,7 +59,7 @@ pub record InEachCase (P : Acted → Type 0) (site : Site) (row : FileRow) (id :
   pub nothing : P unanswered
   pub denied : (why : Denial) → P (tells_client row id (reply.Denied why))
   pub read : (object at len : ℕ) → asked ≡ op.Read object at len → GoesToMember site row capability asked
-      → P (tells_client row id (read_served (site.body row.file) row.head object at len))
+      → P (tells_client row id (serve_read (site.body row.file) row.head object at len))
   pub again : (count : ℕ) → striped_standing row id capability asked ≡ repeated count → P (tells_client row id (reply.Ok count row.head.mark []))
   pub turned : (answer : Reply) → striped_standing row id capability asked ≡ turned_away answer → P (tells_client row id answer)
   pub keeps : (update : Update) → KeepsUpdate site row id capability asked update → P (keeps_update row id update)
@@ -95,8 +95,8 @@ module _ (P : Acted → Type 0) (site : Site) (row : FileRow) (id : OpId) (capab
 
 -- What holds in each case holds of what comes of the ask.
 pub striped_cases : (P : Acted → Type 0) (site : Site) (row : FileRow) (id : OpId) (capability : Capability) (asked : Op) → InEachCase P site row id capability asked
-    → P (striped_handled site row id capability asked)
-unfolding striped_handled striped_refusal plain_step
+    → P (handle_striped site row id capability asked)
+unfolding handle_striped striped_refusal plain_step
 striped_cases P site row id capability asked c = by_capability (capability_refused site capability asked) refl
   where
     So : Option Reply → Type 0
@@ -130,13 +130,13 @@ pub record InThreeCases (P : Acted → Type 0) (site : Site) (row : FileRow) (id
   pub keeps : (update : Update) → KeepsUpdate site row id capability asked update → P (keeps_update row id update)
 
 pub striped_outcome : (P : Acted → Type 0) (site : Site) (row : FileRow) (id : OpId) (capability : Capability) (asked : Op) → InThreeCases P site row id capability asked
-    → P (striped_handled site row id capability asked)
+    → P (handle_striped site row id capability asked)
 striped_outcome P site row id capability asked c =
     striped_cases P site row id capability asked
     (record {
       nothing = c.nothing;
       denied = λ why. c.tells (reply.Denied why);
-      read = λ object at len is goes. c.tells (read_served (site.body row.file) row.head object at len);
+      read = λ object at len is goes. c.tells (serve_read (site.body row.file) row.head object at len);
       again = λ count is. c.tells (reply.Ok count row.head.mark []);
       turned = λ answer is. c.tells answer;
       keeps = c.keeps;

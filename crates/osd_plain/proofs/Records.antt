@@ -13,7 +13,7 @@ use Rattle.xt_protocol.specs.declared.states.PlainActed.{PlainActed}
 use Rattle.xt_protocol.specs.Heads.{head_after}
 use Rattle.xt_protocol.specs.ReplicaRows.{head_fits}
 use Rattle.xt_protocol.specs.Writes.{WriteStanding, repeated, older, turned_away, fresh, standing}
-use Rattle.xt_protocol.specs.PlainRows.{PlainFile, plain_refusal, next_update, write_kept, write_stands, write_served, served, refused_or, plain_step}
+use Rattle.xt_protocol.specs.PlainRows.{PlainFile, plain_refusal, next_update, write_kept, write_stands, serve_plain_write, served, refused_or, plain_step}
 use Rattle.osd_plain.specs.Records.{IsUpdateIfAny}
 
 of_two : (b : Bool) (x y : PlainActed) → IsUpdateIfAny x.rec → IsUpdateIfAny y.rec → IsUpdateIfAny (cond b x y).rec

@@ -9,7 +9,7 @@ ghost use Rattle.xt_protocol.specs.PlainRows.{plain_step};
 ghost use Rattle.xt_protocol.specs.PlainRows as rows;
 
 use crate::PlainActed;
-use crate::serving::{next_update, nothing, only, read_served, refusal, update_fits};
+use crate::serving::{next_update, nothing, only, refusal, serve_read, update_fits};
 use object_versions::{Bodies, StepErr};
 use osd_decisions::{WriteStanding, standing_of};
 use std::alloc::Global;
@@ -97,7 +97,7 @@ impl<'a> Member<'a> {
         match op {
             Op::Read { object, at, len } => {
                 let (file, head) = (&self.file, self.head);
-                let reply = read_served(bodies, self.alloc, file, head, *object, *at, *len)?;
+                let reply = serve_read(bodies, self.alloc, file, head, *object, *at, *len)?;
                 Ok(only(reply))
             }
             Op::Write { .. } | Op::Truncate { .. } => self.write(bodies, id, epoch, location, op),
@@ -116,7 +116,7 @@ impl<'a> Member<'a> {
         requires some { 1024 ≤ location.now.stripe }
         requires operation { FitsOp op.now }
         ensures row { IfOk result (λ acted. acted ≡
-            rows.write_served self.now (body_by (B.records bodies.old) self.now.file) id epoch
+            rows.serve_plain_write self.now (body_by (B.records bodies.old) self.now.file) id epoch
             location.now op.now) }
         ensures reads { ReadsOnly B.records B.fault_count bodies.old bodies.new (fault_of result) }
     {

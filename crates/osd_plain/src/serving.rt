@@ -74,7 +74,7 @@ pub fn refusal(members: &Members, node: NodeId, op: &Op) -> Option<Denial>
 }
 
 /// Read served: the member's count and mark, and the object's bytes from `at` on, filled with zeros to `len`.
-pub fn read_served<B: Bodies>(
+pub fn serve_read<B: Bodies>(
     bodies: &mut B,
     alloc: Global,
     file: &FileId,
@@ -85,7 +85,7 @@ pub fn read_served<B: Bodies>(
 ) -> Result<Reply, StepErr>
     requires { HeadRises head.now }
     ensures value { IfOk result (λ answer. answer ≡
-        rows.read_served (body_by (B.records bodies.old) file.now) head.now object at len) }
+        rows.serve_read (body_by (B.records bodies.old) file.now) head.now object at len) }
     ensures reads { ReadsOnly B.records B.fault_count bodies.old bodies.new (fault_of result) }
 {
     let version = version_of(head.versions.as_slice(), object);

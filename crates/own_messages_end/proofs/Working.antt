@@ -35,7 +35,7 @@ use Rattle.xt_protocol.specs.declared.states.Progress.TheVariants as progress
 use Rattle.xt_protocol.specs.declared.states.Tenure.{Tenure}
 use Rattle.xt_protocol.specs.FileStates.{FileState, file_from, members_of}
 use Rattle.xt_protocol.specs.FileSteps.{step_of_file}
-use Rattle.xt_protocol.specs.OsdSteps.{Outside, OsdState, OsdStep, osd_from, step_of_osd, file_at, file_concerned, handled_awake, event_handled, message_handled}
+use Rattle.xt_protocol.specs.OsdSteps.{Outside, OsdState, OsdStep, osd_from, step_of_osd, file_at, file_concerned, handled_awake, handle_event, handle_message}
 use Rattle.osd_invariants.specs.Sound.{IsSound}
 use Rattle.lease_safety.specs.State.{Has}
 use Rattle.lease_runs.specs.OsdView.{site_of, wake_step}
@@ -149,13 +149,13 @@ module _ (w : Working) (h : Holds w) where
 -- ---- files rise
 
 rise_message : (outside : Outside) (s : OsdState) (now : ℕ) (m : Msg) (o : Option FileId) → Rises (files_of s.files)
-    → Rises (files_of (message_handled (site_of outside (awake_as s.started) now) (awake_as s.started) s.files m o).files)
+    → Rises (files_of (handle_message (site_of outside (awake_as s.started) now) (awake_as s.started) s.files m o).files)
 rise_message outside s now m None rises = rises
 rise_message outside s now m (Some file) rises = with_file_rises s.files (step_of_file (site_of outside (awake_as s.started) now) (file_at (awake_as s.started) s.files file) m.from m.payload).state rises
 
 rise_handled : (outside : Outside) (s : OsdState) (now : ℕ) (happens : Event)
     → ((f : FileState) → Has f s.files → FileHolds f) → ((f : FileState) → Has f s.files → FileStands s.started.node f × FileSmall f)
-    → Rises (files_of s.files) → Rises (files_of (event_handled (site_of outside (awake_as s.started) now) (awake_as s.started) s.files happens).files)
+    → Rises (files_of s.files) → Rises (files_of (handle_event (site_of outside (awake_as s.started) now) (awake_as s.started) s.files happens).files)
 rise_handled outside s now (event.Deliver m) hold stand rises = rise_message outside s now m (file_concerned m.payload) rises
 rise_handled outside s now event.Wake hold stand rises =
     subst (λ (fs : List FileState). Rises (files_of fs)) (sym (woken_files outside s now hold stand rises s.files))

@@ -28,12 +28,12 @@ use Rattle.xt_protocol.specs.Primaries.{is_active, is_ready, issued_by, issued_i
 use Rattle.xt_protocol.specs.Serving.{writes}
 use Rattle.xt_protocol.specs.Asks.{Served, WAITING, asked_already, is_read, serves, waits, write_done}
 use Rattle.xt_protocol.specs.FileStates.{FileState, Site, FileStep, nothing, steps_to, and_then, members_of, ground_of}
-use Rattle.xt_protocol.specs.AskRows.{turned_off, refusal_of, waiting_ask, ask_waits, ask_served, reads_of, round_for, elsewhere, ask_without_lease, ask_under, ask_rows, view_record, ask_let_in, ask_handled}
+use Rattle.xt_protocol.specs.AskRows.{turned_off, refusal_of, waiting_ask, ask_waits, serve_ask, reads_of, round_for, elsewhere, ask_without_lease, ask_under, ask_rows, view_record, ask_let_in, handle_ask}
 use Rattle.xt_protocol.specs.FileSteps.{replica_acts, ask_comes}
 use Rattle.xt_protocol.specs.Heads.{first_epoch, head_after}
 use Rattle.xt_protocol.specs.ReplicaRows.{unanswered}
 use Rattle.xt_protocol.specs.Stamps.{is_earlier}
-use Rattle.xt_protocol.specs.StripedRows.{striped_handled}
+use Rattle.xt_protocol.specs.StripedRows.{handle_striped}
 use Rattle.xt_protocol.specs.declared.states.Acted.{Acted}
 use Rattle.xt_base.specs.declared.ids.Epoch.{Epoch}
 use Rattle.xt_base.specs.declared.ids.Stamp.{Stamp}
@@ -219,10 +219,10 @@ module _ (site : Site) (from : NodeId) (other : (from.0 == site.node.0) ≡ fals
     one_is None (Some a) one = absurd one
     one_is (Some u) None one = absurd one
 
-    served_asked : (ask : WaitingAsk) → IsHeld s.lease → is_active s.primary.tenure ≡ true → IsApart site.node ask.id → Asked s (ask_served site s ask)
+    served_asked : (ask : WaitingAsk) → IsHeld s.lease → is_active s.primary.tenure ≡ true → IsApart site.node ask.id → Asked s (serve_ask site s ask)
     served_asked ask is_held active client = at (active_is s.primary.tenure active)
       where
-        at : IsActive s.primary.tenure → Asked s (ask_served site s ask)
+        at : IsActive s.primary.tenure → Asked s (serve_ask site s ask)
         at a = by_issued (is_some s.asks.issued) refl
           where
             g : Ground
@@ -241,12 +241,12 @@ module _ (site : Site) (from : NodeId) (other : (from.0 == site.node.0) ≡ fals
             served more few up = ask_serves (ground_of site s).place s.kept (site.body s.kept.file) a.t.epoch (asks_left s.asks) more (record { primary = s.primary; asks = s.asks; turned = quiet }) ask (waits s.asks ask) begins client (waits_issued s.asks ask) few up
 
             gives : (more : ℕ) → Serves (ground_of site s).place s.kept a.t.epoch more (serves (ground_of site s) (record { primary = s.primary; asks = s.asks; turned = quiet }) ask (waits s.asks ask))
-                → asks_left (serves (ground_of site s) (record { primary = s.primary; asks = s.asks; turned = quiet }) ask (waits s.asks ask)).asks ≤ WAITING + 1 → Asked s (ask_served site s ask)
+                → asks_left (serves (ground_of site s) (record { primary = s.primary; asks = s.asks; turned = quiet }) ask (waits s.asks ask)).asks ≤ WAITING + 1 → Asked s (serve_ask site s ask)
             gives more q few =
                 record {
                   head = subst (λ (x : Option Record). HeadStands (kept_after s.kept x).head) (sym q.rec) stands.head;
-                  moves = λ mine. moves_none s.kept.head (ask_served site s ask).state.kept.head (ap (λ (x : Option Record). (kept_after s.kept x).head) q.rec);
-                  tenure = subst (λ (x : Option Record). IfTenure site.node (kept_after s.kept x).head (ask_served site s ask).state.primary.tenure) (sym q.rec) (subst (IfTenure site.node s.kept.head) (sym q.is) q.stands);
+                  moves = λ mine. moves_none s.kept.head (serve_ask site s ask).state.kept.head (ap (λ (x : Option Record). (kept_after s.kept x).head) q.rec);
+                  tenure = subst (λ (x : Option Record). IfTenure site.node (kept_after s.kept x).head (serve_ask site s ask).state.primary.tenure) (sym q.rec) (subst (IfTenure site.node s.kept.head) (sym q.is) q.stands);
                   seats = stands.seats;
                   few = few;
                   told = None;
@@ -271,7 +271,7 @@ module _ (site : Site) (from : NodeId) (other : (from.0 == site.node.0) ≡ fals
                 sent_stands (Some i) (Some content) is sent_is =
                     subst (λ (c : Payload). IfMessage s.kept (Some c)) (sym sent_is) (next_stands site.node s.kept q.tenure s.kept.file q.head i (q.active ∙ ap (λ (o : Option IssuedUpdate). progress.Active q.head o) is) q.stands, tt)
 
-                led_by : (sent : Option Payload) → IfLed sent (ask_served site s ask).state
+                led_by : (sent : Option Payload) → IfLed sent (serve_ask site s ask).state
                 led_by None = tt
                 led_by (Some c) = inr (is_held, ap (λ (o : Option Tenure). is_some o) q.is)
 
@@ -281,7 +281,7 @@ module _ (site : Site) (from : NodeId) (other : (from.0 == site.node.0) ≡ fals
                 free_held (writing r) f h = f
                 free_held (held p) f h = f
 
-            by_issued : (b : Bool) → is_some s.asks.issued ≡ b → Asked s (ask_served site s ask)
+            by_issued : (b : Bool) → is_some s.asks.issued ≡ b → Asked s (serve_ask site s ask)
             by_issued true is =
                 gives (WAITING + 2) (served (WAITING + 2) (let low = waits_few s.asks ask stands.few in omega (arith, low)) (let low = stands.few in omega (arith, low)))
                 (issued_few ask (WAITING + 1) is stands.few (waits_few s.asks ask stands.few))
@@ -354,7 +354,7 @@ module _ (site : Site) (from : NodeId) (other : (from.0 == site.node.0) ≡ fals
 
   -- an ask on a striped file: an update is kept only where there is no list, and so no primary
   striped_asked : (s : FileState) (id : OpId) (capability : Capability) (asked : Op) → FileStands site.node s → IsSound s → are_distinct (members_of s.kept.location) ≡ true → IsApart site.node id
-      → Asked s (replica_acts site s id.client (striped_handled site s.kept id capability asked))
+      → Asked s (replica_acts site s id.client (handle_striped site s.kept id capability asked))
   striped_asked s id capability asked stands sound apart client =
       striped_outcome (λ (acted : Acted). Asked s (replica_acts site s id.client acted)) site s.kept id capability asked
       (record {
@@ -400,6 +400,6 @@ module _ (site : Site) (from : NodeId) (other : (from.0 == site.node.0) ≡ fals
 
   pub ask_given : (s : FileState) (k : Kind) (id : OpId) (capability : Capability) (asked : Op) → FileStands site.node s → IsSound s → are_distinct (members_of s.kept.location) ≡ true → are_distinct capability.location.members ≡ true
       → IsApart site.node id → Asked s (ask_comes site s k id capability asked)
-  unfolding ask_handled
+  unfolding handle_ask
   ask_given s kind.Replicated id capability asked stands sound apart listed client = let_in_asked s id capability asked (refusal_of site s.kept.location capability asked) stands (agree_of s sound) apart listed client
   ask_given s kind.Striped id capability asked stands sound apart listed client = striped_asked s id capability asked stands sound apart client

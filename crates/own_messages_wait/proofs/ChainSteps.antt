@@ -11,7 +11,7 @@ use Rattle.lease_safety.specs.State.{Has}
 use Rattle.xt_protocol.specs.Turns.{message}
 use Rattle.xt_protocol.specs.FileStates.{FileState, FileStep}
 use Rattle.xt_protocol.specs.FileSteps.{step_of_file}
-use Rattle.xt_protocol.specs.OsdSteps.{Outside, OsdState, file_at, with_file, file_concerned, message_handled}
+use Rattle.xt_protocol.specs.OsdSteps.{Outside, OsdState, file_at, with_file, file_concerned, handle_message}
 use Rattle.lease_runs.specs.LeaseView.{is_about}
 use Rattle.lease_runs.specs.OsdView.{site_of}
 use Rattle.lease_runs.proofs.OsdLeases.{at_file, step_keeps}
@@ -155,12 +155,12 @@ module _ (outside : Outside) (s : OsdState) (now : ℕ)
 
     -- any message
     pub handled_falls : (o : Option FileId) → file_concerned m.payload ≡ o → m.from.0 ≡ s.started.node.0 → OwnFits (awake_as s.started) s.files m.payload
-        → (let step = message_handled (site_of outside (awake_as s.started) now) (awake_as s.started) s.files m o in Falls (awake_as s.started) s.started.node step.files (rest ++ to_itself s.started.node step.turned.outs) k)
+        → (let step = handle_message (site_of outside (awake_as s.started) now) (awake_as s.started) s.files m o in Falls (awake_as s.started) s.started.node step.files (rest ++ to_itself s.started.node step.turned.outs) k)
     handled_falls None concerns mine own =
         subst (λ (ms : List Msg). Falls (awake_as s.started) s.started.node s.files ms k) (sym (append-nil rest)) (idle_falls (awake_as s.started) s.started.node s.files rises m rest k c concerns)
     handled_falls (Some file) concerns mine own = falls file concerns (its_comes file concerns own) mine
 
     -- what the step on a message about a file sends itself is about that file
     pub handled_about : (file : FileId) → file_concerned m.payload ≡ Some file → m.from.0 ≡ s.started.node.0 → OwnFits (awake_as s.started) s.files m.payload
-        → AreAbout file (to_itself s.started.node (message_handled (site_of outside (awake_as s.started) now) (awake_as s.started) s.files m (Some file)).turned.outs)
+        → AreAbout file (to_itself s.started.node (handle_message (site_of outside (awake_as s.started) now) (awake_as s.started) s.files m (Some file)).turned.outs)
     handled_about file concerns mine own = outs_about file concerns (its_comes file concerns own) mine

@@ -49,13 +49,13 @@ use Rattle.xt_protocol.specs.Writes.{WriteStanding, repeated, older, turned_away
 use Rattle.xt_protocol.specs.Primaries.{Ground, Led, if_any, is_active, is_ready, have_in, majority_among}
 use Rattle.xt_protocol.specs.PrimaryRows.{hears, hears_in}
 use Rattle.xt_protocol.specs.ReplicaRows.{kept_after, gathered, fetched_from, staged, stage_record, headed, head_offered, head_taken, first_missing, updated, update_offered, head_fits, as_promised}
-use Rattle.xt_protocol.specs.Serving.{current_others, issues, next_update_of, reads, write_stands, writes_in, writes_under, writes, gather_unknown, sent_again, wakes_in, wakes_under, wakes}
+use Rattle.xt_protocol.specs.Serving.{current_others, issues, next_update_of, reads, write_stands, writes_in, writes_under, writes, gather_unknown, resend, wakes_in, wakes_under, wakes}
 use Rattle.xt_protocol.specs.Asks.{Served, asks_behind, asks_follow, is_read, no_asks, read_answer, serves, serves_all, serves_waiting, stays, tells_each, tells_untold, waits, write_done, asked_already}
 use Rattle.xt_protocol.specs.FileStates.{FileState, Site, FileStep, steps_to, and_then, members_of, ground_of}
 use Rattle.xt_protocol.specs.Overdue.{is_due, newly_due, deadlines_under, lease_became, expired}
-use Rattle.xt_protocol.specs.FileLeases.{read_comes, write_comes, answer_comes, answer_to_read, answers_to_write, end_after_answer, lease_news, led_on, waiting_told}
-use Rattle.xt_protocol.specs.AskRows.{ask_handled, ask_let_in, ask_rows, ask_under, ask_without_lease, elsewhere, refusal_of, view_record, waiting_ask}
-use Rattle.xt_protocol.specs.StripedRows.{striped_handled}
+use Rattle.xt_protocol.specs.FileLeases.{read_comes, write_comes, answer_comes, answer_to_read, answers_to_write, end_after_answer, lease_news, led_on, answer_waiting}
+use Rattle.xt_protocol.specs.AskRows.{handle_ask, ask_let_in, ask_rows, ask_under, ask_without_lease, elsewhere, refusal_of, view_record, waiting_ask}
+use Rattle.xt_protocol.specs.StripedRows.{handle_striped}
 use Rattle.xt_protocol.specs.FileSteps.{replica_acts, ask_comes, primary_hears, message_comes, renews, step_of_file, wakes_under_lease, wake_of_file}
 use Rattle.osd_invariants.proofs.Kept.{wake_keeps}
 use Rattle.osd_invariants.proofs.StripedAsks.{striped_outcome}
@@ -220,7 +220,7 @@ module _ (site : Site) where
 
   -- ---- the lease
 
-  told_small : (s : FileState) (answer : Reply) → FileSmall s → StepSmall site.node (waiting_told site s answer)
+  told_small : (s : FileState) (answer : Reply) → FileSmall s → StepSmall site.node (answer_waiting site s answer)
   told_small s answer small = record { state = record { head = small.head; tenure = small.tenure }; outs = tells_small site.node s.kept.file s.asks.waiting answer }
 
   led_on_small : (s : FileState) (o : Option Tenure) → FileSmall s → StepSmall site.node (led_on site s o)
@@ -309,7 +309,7 @@ module _ (site : Site) where
       (λ g. record { head = small; answer = λ from to. ((refl, tt), tt) }))))
 
   -- an ask on a striped file
-  striped_small : (row : FileRow) (id : OpId) (capability : Capability) (asked : Op) → IsSmall row.head → ActedSmall row (striped_handled site row id capability asked)
+  striped_small : (row : FileRow) (id : OpId) (capability : Capability) (asked : Op) → IsSmall row.head → ActedSmall row (handle_striped site row id capability asked)
   striped_small row id capability asked small =
       striped_outcome (ActedSmall row) site row id capability asked
       (record {
@@ -351,10 +351,10 @@ module _ (site : Site) where
       stored (Some l) = let q = rows (steps_to (record s { used = site.now }) (keeps (view_record s capability.location (Some l)))).state (record { head = small.head; tenure = small.tenure }) in record { state = q.state; outs = q.outs }
 
   asks_small : (s : FileState) (k : Kind) (id : OpId) (capability : Capability) (asked : Op) → FileSmall s → StepSmall site.node (ask_comes site s k id capability asked)
-  unfolding ask_handled
+  unfolding handle_ask
   asks_small s kind.Replicated id capability asked small = let_in_small s id capability asked (refusal_of site s.kept.location capability asked) small
   asks_small s kind.Striped id capability asked small =
-      acted_small s id.client (striped_handled site s.kept id capability asked) small (striped_small s.kept id capability asked small.head)
+      acted_small s id.client (handle_striped site s.kept id capability asked) small (striped_small s.kept id capability asked small.head)
 
   -- ---- messages and Wakes
 
@@ -407,7 +407,7 @@ module _ (site : Site) where
   wakes_outs place None small = tt
   wakes_outs place (Some t) small = at t.progress
     where
-      again : (issued : Option IssuedUpdate) (node : NodeId) (state : PeerState) → StateSmall state → AreSmall place.node (if_any place.node node (sent_again place t.epoch issued node state))
+      again : (issued : Option IssuedUpdate) (node : NodeId) (state : PeerState) → StateSmall state → AreSmall place.node (if_any place.node node (resend place t.epoch issued node state))
       again issued node peer.Unknown is = ((refl, tt), tt)
       again None node peer.Current is = tt
       again (Some i) node peer.Current is = one (has_node i.acked node.0)
@@ -429,8 +429,8 @@ module _ (site : Site) where
       at : (p : Progress) → AreSmall place.node (wakes_in place t p).outs
       at progress.Gathering = peers_outs place (gather_unknown place t.epoch) t.peers asks_unknown small.0
       at (progress.Fetching chosen source asked later) = ((refl, tt), tt)
-      at (progress.Installing chosen acked) = peers_outs place (sent_again place t.epoch None) t.peers (again None) small.0
-      at (progress.Active head issued) = peers_outs place (sent_again place t.epoch issued) t.peers (again issued) small.0
+      at (progress.Installing chosen acked) = peers_outs place (resend place t.epoch None) t.peers (again None) small.0
+      at (progress.Active head issued) = peers_outs place (resend place t.epoch issued) t.peers (again issued) small.0
 
   woken_small : (s : FileState) (l : LeaseState) → FileSmall s → StepSmall site.node (wakes_under_lease site s l)
   unfolding wakes

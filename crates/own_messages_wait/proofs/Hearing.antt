@@ -30,7 +30,7 @@ use Rattle.xt_protocol.specs.declared.states.Tenure.{Tenure}
 use Rattle.xt_protocol.specs.Turns.{message, sends}
 use Rattle.xt_protocol.specs.ReplicaRows.{kept_after, stage_record}
 use Rattle.xt_protocol.specs.Primaries.{Led, carries, is_unknown, issued_in, is_ready_in, known_of_report, nodes_of, peer_in, target_of, with_node}
-use Rattle.xt_protocol.specs.PrimaryRows.{goes_on, unmoved, status_told, hears_status, with_state, body_beyond, hears_object, body_staged, body_missed, hears_missing, target_in, activated, head_acked, committed, update_acked, acked_below, hears_ack, makes_current, forgotten, peer_behind, outpromised, epoch_told, hears_peer, hears_member, hears_epoch}
+use Rattle.xt_protocol.specs.PrimaryRows.{goes_on, unmoved, take_status, hears_status, with_state, body_beyond, hears_object, body_staged, body_missed, hears_missing, target_in, activated, ack_head, committed, ack_update, acked_below, hears_ack, makes_current, forgotten, peer_behind, outpromised, message_epoch, hears_peer, hears_member, hears_epoch}
 use Rattle.osd_invariants.proofs.Leads.{put_nodes}
 use Rattle.world_runs.proofs.PrimaryIds.{ProgressIs}
 use Rattle.own_messages_wait.proofs.Weights.{Stand, stand_of, rank, epoch_left, bodies_left, bodies_to, is_wanted, are_named, unless, settles}
@@ -149,7 +149,7 @@ module _ (place : Place) (row : FileRow) (its : place.file ≡ row.file) (body :
       let less = lacks_less row.held [] row.held (known_of_report head) target (none_known_lacks row.held (known_of_report head)) in
       omega (arith, same, low, less)
 
-  told : (file : FileId) (epoch : Epoch) (head : FileHead) (state : PeerState) (p : Progress) → t.progress ≡ p → peer_in t.peers from ≡ Some state → is_unknown state ≡ true → Owes (payload.Status file epoch head) (status_told (ground place row body) learnt t p from head)
+  told : (file : FileId) (epoch : Epoch) (head : FileHead) (state : PeerState) (p : Progress) → t.progress ≡ p → peer_in t.peers from ≡ Some state → is_unknown state ≡ true → Owes (payload.Status file epoch head) (take_status (ground place row body) learnt t p from head)
   told file epoch head state progress.Gathering is found unknown =
       counting place row its body learnt (with_state t from (peer.Reported head)) t _ (limit (payload.Status file epoch head)) is is
       (ap are_distinct (put_nodes t.peers from (peer.Reported head)) ∙ apart) head_stands (stands_reported place.node row.head t from head state found stands) (some (payload.Status file epoch head))
@@ -271,7 +271,7 @@ module _ (place : Place) (row : FileRow) (its : place.file ≡ row.file) (body :
   ack_is file stamp b is = ap (λ (c : Bool). epoch_left row (Some t) + three_if c) is
 
   head_heard : (file : FileId) (stamp : Stamp) (chosen : FileHead) (acked : List NodeId) → t.progress ≡ progress.Installing chosen acked → stamp.epoch ≡ t.epoch → Heard (payload.Ack file stamp)
-      → Owes (payload.Ack file stamp) (head_acked (ground place row body) learnt (with_state t from peer.Current) chosen (with_node acked from))
+      → Owes (payload.Ack file stamp) (ack_head (ground place row body) learnt (with_state t from peer.Current) chosen (with_node acked from))
   head_heard file stamp chosen acked is same heard = either (carries place (with_state t from peer.Current).peers (with_node acked from)) _ _ (λ carried. active (and_parts _ _ carried).1) (λ waits. waiting)
     where
       waiting : Owes (payload.Ack file stamp) (unmoved learnt (record (with_state t from peer.Current) { progress = progress.Installing chosen (with_node acked from) }))
@@ -319,7 +319,7 @@ module _ (place : Place) (row : FileRow) (its : place.file ≡ row.file) (body :
       promised : is_earlier row.head.promised u.epoch ≡ false
       promised = ap (is_earlier row.head.promised) epoch ∙ stands.promised
 
-      settled : not (is_below stamp issued.update.stamp) ≡ true → Owes (payload.Ack file stamp) (update_acked (ground place row body) learnt u head issued.update (with_node issued.acked from))
+      settled : not (is_below stamp issued.update.stamp) ≡ true → Owes (payload.Ack file stamp) (ack_update (ground place row body) learnt u head issued.update (with_node issued.acked from))
       settled full = either (carries place u.peers (with_node issued.acked from)) _ _ (λ carried. commits) (λ waits. counts)
         where
           counts : Owes (payload.Ack file stamp) (unmoved learnt (record u { progress = progress.Active head (Some (record { update = issued.update; acked = with_node issued.acked from })) }))
@@ -447,10 +447,10 @@ module _ (place : Place) (row : FileRow) (its : place.file ≡ row.file) (body :
 
   -- ---- any message
 
-  same_epoch : (file : FileId) (stamp : Stamp) (e : Epoch) → epoch_told (payload.Ack file stamp) ≡ Some e → is_epoch e t.epoch ≡ true → stamp.epoch ≡ t.epoch
+  same_epoch : (file : FileId) (stamp : Stamp) (e : Epoch) → message_epoch (payload.Ack file stamp) ≡ Some e → is_epoch e t.epoch ≡ true → stamp.epoch ≡ t.epoch
   same_epoch file stamp e told is = (let its : stamp.epoch ≡ e = cc in its ∙ same_is e t.epoch is)
 
-  peer_heard : (content : Payload) (e : Epoch) (state : PeerState) → epoch_told content ≡ Some e → is_epoch e t.epoch ≡ true → peer_in t.peers from ≡ Some state → Heard content
+  peer_heard : (content : Payload) (e : Epoch) (state : PeerState) → message_epoch content ≡ Some e → is_epoch e t.epoch ≡ true → peer_in t.peers from ≡ Some state → Heard content
       → Owes content (hears_peer (ground place row body) learnt t from state content)
   peer_heard (payload.Status file epoch head) e state told is found heard = status_heard file epoch head state found
   peer_heard (payload.Object file epoch object version bytes) e state told is found heard = object_heard file epoch object version bytes t.progress refl heard
@@ -461,12 +461,12 @@ module _ (place : Place) (row : FileRow) (its : place.file ≡ row.file) (body :
   peer_heard (payload.Refused file epoch promised) e state told is found heard = refused_heard file epoch promised heard
   peer_heard content e state told is found heard = still content
 
-  member_heard : (content : Payload) (e : Epoch) (o : Option PeerState) → epoch_told content ≡ Some e → is_epoch e t.epoch ≡ true → peer_in t.peers from ≡ o → Heard content
+  member_heard : (content : Payload) (e : Epoch) (o : Option PeerState) → message_epoch content ≡ Some e → is_epoch e t.epoch ≡ true → peer_in t.peers from ≡ o → Heard content
       → Owes content (hears_member (ground place row body) learnt t from o content)
   member_heard content e None told is found heard = still content
   member_heard content e (Some state) told is found heard = peer_heard content e state told is found heard
 
   -- Any message to a primary in a tenure.
-  pub epoch_heard : (content : Payload) (o : Option Epoch) → epoch_told content ≡ o → Heard content → Owes content (hears_epoch (ground place row body) learnt t from o content)
+  pub epoch_heard : (content : Payload) (o : Option Epoch) → message_epoch content ≡ o → Heard content → Owes content (hears_epoch (ground place row body) learnt t from o content)
   epoch_heard content None told heard = still content
   epoch_heard content (Some e) told heard = either (is_epoch e t.epoch) _ _ (λ is. member_heard content e (peer_in t.peers from) told is refl heard) (λ other. still content)

@@ -13,7 +13,7 @@ use Rattle.xt_messages.specs.declared.message.Msg.{Msg}
 use Rattle.xt_messages.specs.declared.message.Payload.{Payload}
 use Rattle.xt_messages.specs.declared.message.Payload.TheVariants as payload
 use Rattle.xt_protocol.specs.Register.{Round, Seat, Took, ignored, counted, write_to, alive, Promised, on_promise, report_taken, promise_counted, with_promise, awaits_promise, with_acceptance, awaits_acceptance, counted_pairs, pair_of, on_acceptance, bars, majority_of, has_promise, same_ballot, lease_of}
-use Rattle.xt_protocol.specs.LeaseRows.{LeaseState, running_round, free, asking, writing, held, Held, Proposer, LeaseNews, LeaseStep, sends_write, holds, finds, ends, on_answer, asking_answered, asking_promised, asked_by, Asked, asked_still, asked_write, asked_found, step_of_asking, writing_answered, writing_accepted, Written, written_still, written_won, written_late, round_won, step_of_written, news_of_targets, on_renewal, renewal_under, renewal_answered, renewal_promised, renewal_accepted, renewal_won, renewal_outrun, Renewing, Renewal, no_news, renewal_write, renewed, news_of_renewal, round_starts, is_inside}
+use Rattle.xt_protocol.specs.LeaseRows.{LeaseState, running_round, free, asking, writing, held, Held, Proposer, LeaseNews, LeaseStep, sends_write, holds, finds, ends, on_answer, answer_asking, asking_promised, asked_by, Asked, asked_still, asked_write, asked_found, step_of_asking, answer_writing, writing_accepted, Written, written_still, written_won, written_late, round_won, step_of_written, news_of_targets, on_renewal, renewal_under, renewal_answered, renewal_promised, renewal_accepted, renewal_won, renewal_outrun, Renewing, Renewal, no_news, renewal_write, renewed, news_of_renewal, round_starts, is_inside}
 use Rattle.xt_protocol.specs.LeaseRows as lease
 use Rattle.xt_protocol.specs.Turns.{message}
 use Rattle.world_spec.specs.NodeSteps.{to_itself}
@@ -175,7 +175,7 @@ asked_fits r ballot x content p three fit = at p.took fit.took
     at (write_to targets) is = record { seats = fit.round; writes = three; news = (record { still_free = λ i. absurd i; still_held = λ i. absurd i }, is, λ f. f) }
     at (alive found) is = record { seats = tt; writes = tt; news = record { unheld = λ i. i; free_now = tt } }
 
-asking_fits : (r : Round) (now : ℕ) (from : NodeId) (content : Payload) → IsSeated r → StepFits (asking r) content (asking_answered r now from content)
+asking_fits : (r : Round) (now : ℕ) (from : NodeId) (content : Payload) → IsSeated r → StepFits (asking r) content (answer_asking r now from content)
 asking_fits r now from (payload.Promise file ballot boot report) fit =
     either_step (same_ballot ballot r.ballot) _ _ (asked_fits r r.ballot (lease_of r) (payload.Promise file ballot boot report) (on_promise r now from boot report) (le_refl 3) (promise_fits r now from boot report fit))
     (record { seats = fit; writes = tt; news = record { still_free = λ i. i; still_held = λ i. i } })
@@ -207,7 +207,7 @@ more_fits r content p three fit = at p.took fit.took
     at (write_to targets) is = record { seats = fit.round; writes = three; news = (record { still_free = λ i. i; still_held = λ i. i }, is, λ f. f) }
     at (alive found) is = record { seats = fit.round; writes = tt; news = record { still_free = λ i. i; still_held = λ i. i } }
 
-writing_fits : (r : Round) (now : ℕ) (from : NodeId) (content : Payload) → IsSeated r → StepFits (writing r) content (writing_answered r now from content)
+writing_fits : (r : Round) (now : ℕ) (from : NodeId) (content : Payload) → IsSeated r → StepFits (writing r) content (answer_writing r now from content)
 writing_fits r now from (payload.Promise file ballot boot report) fit =
     either_step (same_ballot ballot r.ballot) _ _ (more_fits r (payload.Promise file ballot boot report) (on_promise r now from boot report) (le_refl 3) (promise_fits r now from boot report fit))
     (record { seats = fit; writes = tt; news = record { still_free = λ i. i; still_held = λ i. i } })

@@ -25,10 +25,10 @@ use Rattle.xt_protocol.specs.declared.states.Tenure.{Tenure}
 use Rattle.xt_protocol.specs.Turns.{sends, shows, message}
 use Rattle.xt_protocol.specs.ReplicaRows.{kept_after, gathered, fetched_from, staged, headed, updated}
 use Rattle.xt_protocol.specs.Primaries.{Led, if_any, is_ready, issued_by, nodes_of}
-use Rattle.xt_protocol.specs.PrimaryRows.{epoch_drawn, epoch_told, hears, hears_in}
+use Rattle.xt_protocol.specs.PrimaryRows.{draw_epoch, message_epoch, hears, hears_in}
 use Rattle.xt_protocol.specs.Asks.{Served, asks_follow, asks_behind, WAITING}
 use Rattle.xt_protocol.specs.FileStates.{FileState, Site, FileStep, nothing, steps_to, and_then, serves_to, members_of, ground_of}
-use Rattle.xt_protocol.specs.FileLeases.{read_comes, write_comes, answer_comes, answer_to_read, answers_to_write, end_after_answer, lease_news, waiting_told, led_on}
+use Rattle.xt_protocol.specs.FileLeases.{read_comes, write_comes, answer_comes, answer_to_read, answers_to_write, end_after_answer, lease_news, answer_waiting, led_on}
 use Rattle.xt_protocol.specs.FileSteps.{replica_acts, primary_hears, message_comes}
 use Rattle.osd_invariants.specs.Sound.{AreOne, IsHeld, IsSound, PeersAre}
 use Rattle.world_spec.specs.NodeSteps.{to_itself}
@@ -227,10 +227,10 @@ module _ (site : Site) (s : FileState) (from : NodeId) (stands : FileStands site
         less = λ mine. subst (λ (b : Bool). Less b site.node s content step None None) (sym is_one) (settled_less site.node s content step None 0 q tt one);
       }
 
-  told_off : (content : Payload) (l : LeaseState) (end : ℕ) (answer : Reply) → is_lease content ≡ true → 1 ≤ lease_rank content → IsOver s.lease l → Comes site.node from content s (waiting_told site (record s { lease = l; last_end = end }) answer)
+  told_off : (content : Payload) (l : LeaseState) (end : ℕ) (answer : Reply) → is_lease content ≡ true → 1 ≤ lease_rank content → IsOver s.lease l → Comes site.node from content s (answer_waiting site (record s { lease = l; last_end = end }) answer)
   told_off content l end answer is_one one over =
-      quiet_comes content (waiting_told site (record s { lease = l; last_end = end }) answer) is_one one
-      (leaves site.node s (waiting_told site (record s { lease = l; last_end = end }) answer) stands.tenure refl refl (seated l over.free_now) fewer (λ f. over.free_now) (λ h. absurd (over.unheld h)))
+      quiet_comes content (answer_waiting site (record s { lease = l; last_end = end }) answer) is_one one
+      (leaves site.node s (answer_waiting site (record s { lease = l; last_end = end }) answer) stands.tenure refl refl (seated l over.free_now) fewer (λ f. over.free_now) (λ h. absurd (over.unheld h)))
       (tells_mine site.node s.kept.file s.asks.waiting answer stands.ids.asks.waiting)
     where
       seated : (l : LeaseState) → IsFree l → IfSeated (running_round l)
@@ -291,9 +291,9 @@ module _ (site : Site) (s : FileState) (from : NodeId) (stands : FileStands site
       place = (ground_of site s).place
 
       led : Led
-      led = epoch_drawn (ground_of site s).place s.primary.learnt s.kept.head (members_of s.kept.location)
+      led = draw_epoch (ground_of site s).place s.primary.learnt s.kept.head (members_of s.kept.location)
 
-      q : Row site.node s.kept None (Unit {0}) 7 (epoch_drawn (ground_of site s).place s.primary.learnt s.kept.head (members_of s.kept.location))
+      q : Row site.node s.kept None (Unit {0}) 7 (draw_epoch (ground_of site s).place s.primary.learnt s.kept.head (members_of s.kept.location))
       q = draws (ground_of site s).place s.kept refl s.primary.learnt (members_of s.kept.location) None (Unit {0}) 7 apart stands.head (λ own. le_refl 7)
 
       not_both_ways : (l : LeaseState) → IsFree l → IsHeld l → ⊥
@@ -302,7 +302,7 @@ module _ (site : Site) (s : FileState) (from : NodeId) (stands : FileStands site
       not_both_ways (writing r) f h = f
       not_both_ways (held p) f h = f
 
-      led_by : (sent : Option Payload) → IfLeads sent (epoch_drawn (ground_of site s).place s.primary.learnt s.kept.head (members_of s.kept.location)).primary.tenure
+      led_by : (sent : Option Payload) → IfLeads sent (draw_epoch (ground_of site s).place s.primary.learnt s.kept.head (members_of s.kept.location)).primary.tenure
           → IfLed sent (and_then (steps_to (record s { lease = l; last_end = end }) (shows (mark.Held s.kept.file.number end))) (λ state. led_on site state None)).state
       led_by None is = tt
       led_by (Some c) is = inr (won.held_now, is)
@@ -587,7 +587,7 @@ module _ (site : Site) (s : FileState) (from : NodeId) (stands : FileStands site
             follow (ground_of site s).place s.kept refl (site.body s.kept.file) (Some t) s.asks ((from.0 ≡ site.node.0) × BodyStays s.kept (Some t) content) (epoch_left s.kept (Some t) + rank (stand_of site.node s.kept (Some t)) content)
             stands.ids.asks.waiting (subst (λ (o : Option Tenure). AreOne (issued_by o) s.asks.issued) is sound.issued) (hears_in (ground_of site s) s.primary.learnt (Some t) from content)
             (epoch_heard (ground_of site s).place s.kept refl (site.body s.kept.file) s.primary.learnt t from stands.head (subst (IfTenure site.node s.kept.head) is stands.tenure) peers_apart
-            (subst (TenureIs (IsApart site.node)) is stands.ids.tenure) content (epoch_told content) refl heard)
+            (subst (TenureIs (IsApart site.node)) is stands.ids.tenure) content (message_epoch content) refl heard)
 
         led_by : (sent : Option Payload) → IfLeads sent (asks_follow (ground_of site s) (Some t) s.asks (hears_in (ground_of site s) s.primary.learnt (Some t) from content)).primary.tenure
             → IfLed sent (serves_to s (asks_follow (ground_of site s) (Some t) s.asks (hears_in (ground_of site s) s.primary.learnt (Some t) from content))).state

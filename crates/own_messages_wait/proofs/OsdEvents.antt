@@ -15,7 +15,7 @@ use Rattle.xt_protocol.specs.Turns.{quiet}
 use Rattle.xt_protocol.specs.FileStates.{FileState, Site, FileStep}
 use Rattle.xt_protocol.specs.FileSteps.{step_of_file, wake_of_file}
 use Rattle.xt_protocol.specs.Overdue.{expired}
-use Rattle.xt_protocol.specs.OsdSteps.{Outside, OsdState, OsdStep, file_at, with_file, each_file, file_concerned, message_handled, asks_dir, woken, handled_awake}
+use Rattle.xt_protocol.specs.OsdSteps.{Outside, OsdState, OsdStep, file_at, with_file, each_file, file_concerned, handle_message, asks_dir, woken, handled_awake}
 use Rattle.lease_runs.specs.OsdView.{site_of, wake_step}
 use Rattle.lease_runs.proofs.OsdLeases.{file_at-with_file, at_file, step_keeps, put_here}
 use Rattle.world_spec.specs.NodeSteps.{to_itself}
@@ -258,7 +258,7 @@ module _ (outside : Outside) (s : OsdState) (now : ℕ)
   -- ---- any event
 
   message_after : (msg : Msg) (o : Option FileId) → file_concerned msg.payload ≡ o → Arrives s (event.Deliver msg)
-      → OsdAfter s (event.Deliver msg) (let step = message_handled place here s.files msg o in record { osd = record { started = s.started; last = now; files = step.files }; turned = step.turned })
+      → OsdAfter s (event.Deliver msg) (let step = handle_message place here s.files msg o in record { osd = record { started = s.started; last = now; files = step.files }; turned = step.turned })
   message_after msg None concerns arrives = rests (event.Deliver msg)
   message_after msg (Some file) concerns arrives = concerned msg file concerns arrives
 

@@ -28,7 +28,7 @@ use Rattle.world_spec.specs.NodeSteps.{files_marked}
 use Rattle.xt_base.specs.declared.ids.FileId.{FileId}
 use Rattle.xt_messages.specs.declared.message.Msg.{Msg}
 use Rattle.lease_runs.specs.OsdView.{site_of}
-use Rattle.xt_protocol.specs.OsdSteps.{FilesStep, file_concerned, message_handled}
+use Rattle.xt_protocol.specs.OsdSteps.{FilesStep, file_concerned, handle_message}
 use Rattle.std.proofs.Common.{ℕ, List, Option, None, length-append, ◌≤◌}
 use Rattle.own_messages_wait.proofs.Running.{InChain, no_own, of_an_osd, of_one_file, awake_step, awake_is, osd_left, osd_chain, osd_chain_by}
 
@@ -80,7 +80,7 @@ module _ (w : World) (node : Node) (r : Running) (s : OsdState) (found : node_in
         omega (arith, few, all, made, no_more)
 
   abbrev hears : Msg → Option FileId → FilesStep
-  hears m o = message_handled (site_of (outside_of node.kept) (awake_as s.started) (max r.clock s.last)) (awake_as s.started) s.files m o
+  hears m o = handle_message (site_of (outside_of node.kept) (awake_as s.started) (max r.clock s.last)) (awake_as s.started) s.files m o
 
   message_chain : (m : Msg) (comes : Reaches w [] node.id (event.Deliver m)) → (let step = awake_step (outside_of node.kept) s r.clock (event.Deliver m) in InChain (after_turn w node (record r { core = osd step.osd }) step.turned) (to_itself node.id step.turned.outs) OWN)
   message_chain m comes = at (file_concerned m.payload) refl (behind (event.Deliver m) comes)

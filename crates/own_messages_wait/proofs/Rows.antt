@@ -32,7 +32,7 @@ use Rattle.xt_protocol.specs.Turns.{message, to_each}
 use Rattle.xt_protocol.specs.ReplicaRows.{kept_after}
 use Rattle.xt_protocol.specs.Choice.{chosen_of, difference}
 use Rattle.xt_protocol.specs.Primaries.{Ground, Led, issued_by, issued_in, is_ready, is_ready_in, nodes_of, peer_in, with_peer, fed, known_of_own, known_of_report, last_sent, last_to_each, majority_among, reports_of, statuses_counted, target_of, unknown_peer}
-use Rattle.xt_protocol.specs.PrimaryRows.{epoch_above, epoch_drawn, goes_on, unmoved, peer_fed, peers_fed, installs, fetches, head_chosen, chooses, status_counted, with_state, feeds, target_in, after_keeping}
+use Rattle.xt_protocol.specs.PrimaryRows.{epoch_above, draw_epoch, goes_on, unmoved, feed_peer, feed_peers, installs, fetches, choose_head, chooses, status_counted, with_state, feeds, target_in, after_keeping}
 use Rattle.world_spec.specs.NodeSteps.{to_itself}
 use Rattle.own_messages_wait.proofs.Weights.{stand_of, Stand, rank, epoch_left, bodies_left, bodies_to, are_named, unless}
 use Rattle.own_messages_wait.proofs.Standing.{IfAbout, HeadStands, IsPast, IsNext, IfTenure, TenureStands, ProgressStands, IsUnfed, Stands, IfMessage}
@@ -176,8 +176,8 @@ fresh_epoch e = ap six_if (not_before_self e)
 
 -- an epoch is drawn
 pub draws : (place : Place) (row : FileRow) (its : place.file ≡ row.file) (learnt : ℕ) (members : List NodeId) (before : Option Tenure) (Own : Type 0) (limit : ℕ) → are_distinct members ≡ true → HeadStands row.head → (Own → 7 ≤ limit)
-    → Row place.node row before Own limit (epoch_drawn place learnt row.head members)
-unfolding epoch_drawn
+    → Row place.node row before Own limit (draw_epoch place learnt row.head members)
+unfolding draw_epoch
 draws place row its learnt members before Own limit apart head room = either (nat_lt (epoch_above place learnt row.head).number COUNTS) _ _ (λ is. drawn (has_node members place.node.0) refl) (λ is. none)
   where
     epoch : Epoch
@@ -231,25 +231,25 @@ draws place row its learnt members before Own limit apart head room = either (na
 
 -- ---- a head is installed
 
-fed_nodes : (g : Ground) (target : FileHead) (peers : List Peer) → nodes_of (peers_fed g target peers) ≡ nodes_of peers
+fed_nodes : (g : Ground) (target : FileHead) (peers : List Peer) → nodes_of (feed_peers g target peers) ≡ nodes_of peers
 fed_nodes g target [] = refl
 fed_nodes g target (p ∷ ps) = ap (λ (others : List NodeId). p.node ∷ others) (fed_nodes g target ps)
 
 -- the own node is as it was
-fed_same : (g : Ground) (target : FileHead) (peers : List Peer) → peer_in (peers_fed g target peers) g.place.node ≡ peer_in peers g.place.node
+fed_same : (g : Ground) (target : FileHead) (peers : List Peer) → peer_in (feed_peers g target peers) g.place.node ≡ peer_in peers g.place.node
 unfolding peer_in
 fed_same g target [] = refl
 fed_same g target (p ∷ ps) = at (p.node.0 == g.place.node.0) refl (fed_same g target ps)
   where
-    own : (state : PeerState) → (p.node.0 == g.place.node.0) ≡ true → peer_fed g target p.node state ≡ state
+    own : (state : PeerState) → (p.node.0 == g.place.node.0) ≡ true → feed_peer g target p.node state ≡ state
     own peer.Unknown is = refl
     own (peer.Reported head) is = ap (λ (b : Bool). cond b (peer.Reported head) (fed g.body target (known_of_report head))) is
     own (peer.Feeding known object version body) is = refl
     own (peer.Heading known head) is = refl
     own peer.Current is = refl
 
-    at : (b : Bool) → (p.node.0 == g.place.node.0) ≡ b → peer_in (peers_fed g target ps) g.place.node ≡ peer_in ps g.place.node
-        → cond b (Some (peer_fed g target p.node p.state)) (peer_in (peers_fed g target ps) g.place.node) ≡ cond b (Some p.state) (peer_in ps g.place.node)
+    at : (b : Bool) → (p.node.0 == g.place.node.0) ≡ b → peer_in (feed_peers g target ps) g.place.node ≡ peer_in ps g.place.node
+        → cond b (Some (feed_peer g target p.node p.state)) (peer_in (feed_peers g target ps) g.place.node) ≡ cond b (Some p.state) (peer_in ps g.place.node)
     at true is rest = ap (λ (s : PeerState). Some s) (own p.state is)
     at false is rest = rest
 
@@ -284,7 +284,7 @@ installing place row its body learnt t chosen rec before Own limit keeps apart h
     let g = ground place row body in
     let n = place.node in
     let target = target_of row.head t.epoch chosen in
-    let peers = peers_fed g target t.peers in
+    let peers = feed_peers g target t.peers in
     let same = fed_same g target t.peers in
     record {
       head = subst HeadStands (sym keeps) head;
@@ -304,15 +304,15 @@ installing place row its body learnt t chosen rec before Own limit keeps apart h
     }
   where
     bound : Reports place row t limit
-        → peer_in (peers_fed (ground place row body) (target_of row.head t.epoch chosen) t.peers) place.node ≡ peer_in t.peers place.node
+        → peer_in (feed_peers (ground place row body) (target_of row.head t.epoch chosen) t.peers) place.node ≡ peer_in t.peers place.node
         → (rec : Option Record) → rec ≡ None
         → left place.node (Some (payload.Head place.file t.epoch (target_of row.head t.epoch chosen))) (kept_after row rec)
-        (Some (record { epoch = t.epoch; peers = peers_fed (ground place row body) (target_of row.head t.epoch chosen) t.peers; progress = progress.Installing chosen [] })) + 1 ≤ limit
+        (Some (record { epoch = t.epoch; peers = feed_peers (ground place row body) (target_of row.head t.epoch chosen) t.peers; progress = progress.Installing chosen [] })) + 1 ≤ limit
     bound r same (Some rec) is = absurd (cc)
     bound r same None is =
         let target = target_of row.head t.epoch chosen in
         let named : unless (are_named (Some target) target.versions) ≡ 0 = ap unless (named_itself target) in
-        let none : bodies_left row.held (Some target) (peer_in (peers_fed (ground place row body) target t.peers) place.node) ≡ 0 = ap (bodies_left row.held (Some target)) (same ∙ r.1) in
+        let none : bodies_left row.held (Some target) (peer_in (feed_peers (ground place row body) target t.peers) place.node) ≡ 0 = ap (bodies_left row.held (Some target)) (same ∙ r.1) in
         let enough = r.2 in
         omega (arith, named, none, enough)
 
@@ -348,7 +348,7 @@ module _ (place : Place) (row : FileRow) (its : place.file ≡ row.file) (body :
   pub choosing : (learnt : ℕ) (t : Tenure) (best : NodeId × FileHead) (before : Option Tenure) (Own : Type 0) (limit : ℕ)
       → are_distinct (nodes_of t.peers) ≡ true → HeadStands row.head → is_earlier row.head.promised t.epoch ≡ false → IsUnfed (peer_in t.peers place.node)
       → (Own → Reports place row t limit)
-      → Row place.node row before Own limit (head_chosen (ground place row body) learnt t best)
+      → Row place.node row before Own limit (choose_head (ground place row body) learnt t best)
   choosing learnt t best before Own limit apart head promised unfed room =
       either (best.0.0 == place.node.0) _ _ (λ is. installing place row its body learnt t best.1 None before Own limit refl apart head promised unfed (λ mine. (refl, room mine)))
       (λ other. unkept place.node row before Own limit (ground place row body) learnt t best.1 best.0 (difference (known_of_own row.held) best.1.versions)

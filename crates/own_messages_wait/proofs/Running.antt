@@ -28,7 +28,7 @@ use Rattle.world_runs.proofs.Lists.{has_in, has_filter}
 use Rattle.world_runs.proofs.Tables.{same, node_in-new, node_in-other, node_in-id}
 use Rattle.std.proofs.Common.{length}
 use Rattle.std.specs.Prelude.{Result, Ok, Err, nat_lt}
-use Rattle.xt_protocol.specs.OsdSteps.{Outside, event_handled, handled_awake}
+use Rattle.xt_protocol.specs.OsdSteps.{Outside, handle_event, handled_awake}
 use Rattle.lease_runs.specs.OsdView.{site_of}
 use Rattle.client_rows.specs.Steps.{Step}
 use Rattle.xt_base.specs.declared.ids.FileId.{FileId}
@@ -41,7 +41,7 @@ use Rattle.own_messages_wait.proofs.Osds.{FileHolds, OwnFits}
 use Rattle.world_runs.proofs.Rising.{with_file_rises}
 use Rattle.lease_runs.proofs.OsdLeases.{at_file, step_keeps}
 use Rattle.xt_protocol.specs.FileSteps.{step_of_file}
-use Rattle.xt_protocol.specs.OsdSteps.{FilesStep, file_at, message_handled}
+use Rattle.xt_protocol.specs.OsdSteps.{FilesStep, file_at, handle_message}
 use Rattle.own_messages_wait.proofs.Forgets.{alone_then, chain_then}
 use Rattle.own_messages_wait.proofs.OneFile.{AloneFalls, IsAlone, alone_falls}
 use Rattle.xt_messages.specs.declared.record.KeepBody.{KeepBody}
@@ -263,7 +263,7 @@ osd_left s now step = record { osd = record { started = s.started; last = now; f
 -- what an OSD that is awake does
 abbrev pub awake_step : Outside → OsdState → ℕ → Event → OsdStep
 awake_step outside s reading happens =
-    osd_left s (max reading s.last) (event_handled (site_of outside (awake_as s.started) (max reading s.last)) (awake_as s.started) s.files happens)
+    osd_left s (max reading s.last) (handle_event (site_of outside (awake_as s.started) (max reading s.last)) (awake_as s.started) s.files happens)
 
 pub awake_is : (outside : Outside) (s : OsdState) (reading : ℕ) (happens : Event) → is_silent s.started (max reading s.last) ≡ false → step_of_osd outside s reading happens ≡ awake_step outside s reading happens
 unfolding step_of_osd
@@ -300,7 +300,7 @@ abbrev pub osd_chain : (d : Doing) (node : Node) (r : Running) (s : OsdState) (h
     → (let step = awake_step (outside_of node.kept) s r.clock happens in Chain (awake_as s.started) s.started.node step.osd.files (d.own ++ to_itself s.started.node step.turned.outs) j
     → OsdChain (after_turn d.world node (record r { core = osd step.osd }) step.turned) (d.own ++ to_itself node.id step.turned.outs) j)
 osd_chain d node r s happens j found mine awake to chain =
-    osd_chain_by d node r s (event_handled (site_of (outside_of node.kept) (awake_as s.started) (max r.clock s.last)) (awake_as s.started) s.files happens) j found mine awake to chain
+    osd_chain_by d node r s (handle_event (site_of (outside_of node.kept) (awake_as s.started) (max r.clock s.last)) (awake_as s.started) s.files happens) j found mine awake to chain
 
 -- ---- the next message of a node to itself
 
@@ -326,7 +326,7 @@ module _ (w : World) (node : Node) (r : Running) (s : OsdState) (found : node_in
   own_fits = (stood.mine.own_at m (inl refl)).stands node r s (ap (λ (n : NodeId). node_in w.nodes n.0) here ∙ found) up core
 
   abbrev there : Option FileId → FilesStep
-  there o = message_handled (site_of (outside_of node.kept) (awake_as s.started) (max r.clock s.last)) (awake_as s.started) s.files m o
+  there o = handle_message (site_of (outside_of node.kept) (awake_as s.started) (max r.clock s.last)) (awake_as s.started) s.files m o
 
   all_hold : (f : FileState) → Has f s.files → FileHolds f
   all_hold f h = holds_of (known w) (lists w (m ∷ rest) stood) f ((fits w (m ∷ rest) node r found up stood s core).0.fits f h)

@@ -30,7 +30,7 @@ use Rattle.xt_protocol.specs.Turns.{message}
 use Rattle.xt_protocol.specs.ReplicaRows.{kept_after, stage_record}
 use Rattle.xt_protocol.specs.Choice.{chosen_of, is_better, difference}
 use Rattle.xt_protocol.specs.Primaries.{Ground, Led, carries, fed, fed_next, if_any, is_unknown, known_of_own, known_of_report, last_sent, majority_among, nodes_of, peer_in, report_of, reports_of, statuses_counted, target_of, unknown_peer, with_node, with_peer}
-use Rattle.xt_protocol.specs.PrimaryRows.{after_keeping, epoch_above, epoch_drawn, peer_fed, peers_fed, installs, fetches, head_chosen, chooses, status_counted, with_state, feeds, status_told, body_beyond, hears_object, target_in, body_staged, body_missed, hears_missing, committed, acked_below, hears_ack, makes_current, forgotten, peer_behind, epoch_told, hears_peer, hears_member, hears_epoch, hears_in, unmoved}
+use Rattle.xt_protocol.specs.PrimaryRows.{after_keeping, epoch_above, draw_epoch, feed_peer, feed_peers, installs, fetches, choose_head, chooses, status_counted, with_state, feeds, take_status, body_beyond, hears_object, target_in, body_staged, body_missed, hears_missing, committed, acked_below, hears_ack, makes_current, forgotten, peer_behind, message_epoch, hears_peer, hears_member, hears_epoch, hears_in, unmoved}
 
 -- ---- what is small
 
@@ -146,11 +146,11 @@ target_small own epoch chosen here there = at (is_epoch own.stamp.epoch epoch)
     at true = here
     at false = there
 
-all_fed : (g : Ground) (target : FileHead) (peers : List Peer) → IsSmall target → PeersSmall peers → PeersSmall (peers_fed g target peers)
+all_fed : (g : Ground) (target : FileHead) (peers : List Peer) → IsSmall target → PeersSmall peers → PeersSmall (feed_peers g target peers)
 all_fed g target [] small are = tt
 all_fed g target (p ∷ ps) small are = (one p.state are.0, all_fed g target ps small are.1)
   where
-    one : (state : PeerState) → StateSmall state → StateSmall (peer_fed g target p.node state)
+    one : (state : PeerState) → StateSmall state → StateSmall (feed_peer g target p.node state)
     one peer.Unknown is = tt
     one (peer.Reported head) is = at (p.node.0 == g.place.node.0)
       where
@@ -195,8 +195,8 @@ chosen_small own first others is are = best_small own first others is are
 still : {n : NodeId} (learnt : ℕ) (t : Tenure) → TenureSmall (Some t) → LedSmall n (unmoved learnt t)
 still learnt t small = record { tenure = small; outs = tt; keeps = λ row is. is }
 
-pub drawn_small : (place : Place) (learnt : ℕ) (own : FileHead) (members : List NodeId) → LedSmall place.node (epoch_drawn place learnt own members)
-unfolding epoch_drawn
+pub drawn_small : (place : Place) (learnt : ℕ) (own : FileHead) (members : List NodeId) → LedSmall place.node (draw_epoch place learnt own members)
+unfolding draw_epoch
 drawn_small place learnt own members =
     either (nat_lt (epoch_above place learnt own).number COUNTS) _ _
     (record { tenure = (fresh_small members, tt); outs = each_small place.node (λ (to : NodeId). message place.node to (payload.Gather place.file (epoch_above place learnt own))) members (λ to. (refl, tt)); keeps = λ row is. is })
@@ -209,7 +209,7 @@ module _ (g : Ground) (learnt : ℕ) (own_small : IsSmall g.own) where
       let fed_peers = all_fed g (target_of g.own t.epoch chosen) t.peers target are in
       record {
         tenure = (fed_peers, small);
-        outs = ((refl, target), peers_outs g.place (λ (k : NodeId) (state : PeerState). last_sent g.place.file t.epoch state) (peers_fed g (target_of g.own t.epoch chosen) t.peers) (λ node state is. last_small g.place.node node g.place.file t.epoch state is) fed_peers);
+        outs = ((refl, target), peers_outs g.place (λ (k : NodeId) (state : PeerState). last_sent g.place.file t.epoch state) (feed_peers g (target_of g.own t.epoch chosen) t.peers) (λ node state is. last_small g.place.node node g.place.file t.epoch state is) fed_peers);
         keeps = λ row is. is;
       }
 
@@ -221,7 +221,7 @@ module _ (g : Ground) (learnt : ℕ) (own_small : IsSmall g.own) where
       fetches_here chosen source [] is = installs_small t chosen small.0 is
       fetches_here chosen source (v ∷ later) is = record { tenure = (small.0, is); outs = ((refl, tt), tt); keeps = λ row i. i }
 
-      at : (best : NodeId × FileHead) → IsSmall best.1 → LedSmall g.place.node (head_chosen g learnt t best)
+      at : (best : NodeId × FileHead) → IsSmall best.1 → LedSmall g.place.node (choose_head g learnt t best)
       at best is = either (best.0.0 == g.place.node.0) _ _ (installs_small t best.1 small.0 is) (fetches_here best.1 best.0 (difference (known_of_own g.held) best.1.versions) is)
 
   counted_small : (t : Tenure) → TenureSmall (Some t) → LedSmall g.place.node (status_counted g learnt t)
@@ -235,7 +235,7 @@ module _ (g : Ground) (learnt : ℕ) (own_small : IsSmall g.own) where
   put_still : (t : Tenure) (node : NodeId) (state : PeerState) → TenureSmall (Some t) → StateSmall state → TenureSmall (Some (with_state t node state))
   put_still t node state small is = (put_small t.peers node state is small.0, small.1)
 
-  told_small : (t : Tenure) (p : Progress) (from : NodeId) (head : FileHead) → t.progress ≡ p → TenureSmall (Some t) → IsSmall head → LedSmall g.place.node (status_told g learnt t p from head)
+  told_small : (t : Tenure) (p : Progress) (from : NodeId) (head : FileHead) → t.progress ≡ p → TenureSmall (Some t) → IsSmall head → LedSmall g.place.node (take_status g learnt t p from head)
   told_small t progress.Gathering from head is small new = counted_small (with_state t from (peer.Reported head)) (put_still t from (peer.Reported head) small new)
   told_small t (progress.Fetching chosen source asked later) from head is small new = still learnt (with_state t from (peer.Reported head)) (put_still t from (peer.Reported head) small new)
   told_small t (progress.Installing chosen acked) from head is small new = feeds_small t from (target_of g.own t.epoch chosen) (known_of_report head) small (target_small g.own t.epoch chosen own_small (subst ProgressSmall is small.1))
@@ -272,7 +272,7 @@ module _ (g : Ground) (learnt : ℕ) (own_small : IsSmall g.own) where
           let fed_peers = all_fed (record g { body = body_beyond g.place.file (stage_record g.place.file g.held object version bytes) g.body }) (target_of g.own t.epoch chosen) t.peers target small.0 in
           record {
             tenure = (fed_peers, chosen_is);
-            outs = ((refl, target), peers_outs g.place (λ (k : NodeId) (state : PeerState). last_sent g.place.file t.epoch state) (peers_fed (record g { body = body_beyond g.place.file (stage_record g.place.file g.held object version bytes) g.body }) (target_of g.own t.epoch chosen) t.peers) (λ node state is. last_small g.place.node node g.place.file t.epoch state is) fed_peers);
+            outs = ((refl, target), peers_outs g.place (λ (k : NodeId) (state : PeerState). last_sent g.place.file t.epoch state) (feed_peers (record g { body = body_beyond g.place.file (stage_record g.place.file g.held object version bytes) g.body }) (target_of g.own t.epoch chosen) t.peers) (λ node state is. last_small g.place.node node g.place.file t.epoch state is) fed_peers);
             keeps = staged;
           }
       at (v ∷ vs) = record { tenure = (small.0, chosen_is); outs = ((refl, tt), tt); keeps = staged }
@@ -353,4 +353,4 @@ module _ (g : Ground) (learnt : ℕ) (own_small : IsSmall g.own) where
   -- Any message to a primary.
   pub hears_small : (o : Option Tenure) (from : NodeId) (content : Payload) → TenureSmall o → ContentSmall content → LedSmall g.place.node (hears_in g learnt o from content)
   hears_small None from content small new = record { tenure = tt; outs = tt; keeps = λ row is. is }
-  hears_small (Some t) from content small new = epoch_small t from (epoch_told content) content small new
+  hears_small (Some t) from content small new = epoch_small t from (message_epoch content) content small new

@@ -15,7 +15,7 @@ use Rattle.xt_protocol.proofs.Folds.{file-equal, file-itself}
 use Rattle.lease_safety.specs.State.{Has}
 use Rattle.xt_protocol.specs.FileStates.{FileState, Site, FileStep}
 use Rattle.xt_protocol.specs.FileSteps.{step_of_file}
-use Rattle.xt_protocol.specs.OsdSteps.{Outside, OsdState, FilesStep, file_at, with_file, file_concerned, message_handled, event_handled}
+use Rattle.xt_protocol.specs.OsdSteps.{Outside, OsdState, FilesStep, file_at, with_file, file_concerned, handle_message, handle_event}
 use Rattle.lease_runs.specs.OsdView.{site_of}
 use Rattle.lease_runs.proofs.OsdLeases.{file_at-with_file, at_file}
 use Rattle.world_spec.specs.declared.PlacedFile.{PlacedFile}
@@ -569,13 +569,13 @@ module _ (outside : Outside) (s : OsdState) (now : ℕ)
   -- ---- any of them
 
   abbrev pub handled : Event → FilesStep
-  handled happens = event_handled (site_of outside (awake_as s.started) now) (awake_as s.started) s.files happens
+  handled happens = handle_event (site_of outside (awake_as s.started) now) (awake_as s.started) s.files happens
 
   abbrev pub Starts : FilesStep → ℕ → Type 0
   Starts step k = Chain (awake_as s.started) s.started.node step.files (to_itself s.started.node step.turned.outs) k
 
   message_starts : (m : Msg) (o : Option FileId) → file_concerned m.payload ≡ o → Arrives s (event.Deliver m) → IsOutside s.started.node (event.Deliver m)
-      → Behind s.started.node (message_handled (site_of outside (awake_as s.started) now) (awake_as s.started) s.files m o).files → Starts (message_handled (site_of outside (awake_as s.started) now) (awake_as s.started) s.files m o) (OWN * count_busy (message_handled (site_of outside (awake_as s.started) now) (awake_as s.started) s.files m o).files)
+      → Behind s.started.node (handle_message (site_of outside (awake_as s.started) now) (awake_as s.started) s.files m o).files → Starts (handle_message (site_of outside (awake_as s.started) now) (awake_as s.started) s.files m o) (OWN * count_busy (handle_message (site_of outside (awake_as s.started) now) (awake_as s.started) s.files m o).files)
   message_starts m None concerns arrives other behind = none_starts
   message_starts m (Some file) concerns arrives other behind = heard_starts m file concerns arrives other behind.all_stand behind.all_rise
 

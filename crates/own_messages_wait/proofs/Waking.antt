@@ -21,7 +21,7 @@ use Rattle.xt_protocol.specs.declared.states.PrimaryState.{PrimaryState}
 use Rattle.xt_protocol.specs.declared.states.Asks.{Asks}
 use Rattle.xt_protocol.specs.ReplicaRows.{kept_after}
 use Rattle.xt_protocol.specs.Primaries.{nodes_of, peer_in}
-use Rattle.xt_protocol.specs.Serving.{gather_unknown, unacked, sent_again, wakes_in, wakes_under, wakes}
+use Rattle.xt_protocol.specs.Serving.{gather_unknown, unacked, resend, wakes_in, wakes_under, wakes}
 use Rattle.xt_protocol.specs.Asks.{WAITING}
 use Rattle.xt_protocol.specs.FileStates.{FileState, Site, FileStep, nothing, steps_to, members_of, ground_of}
 use Rattle.xt_protocol.specs.AskRows.{reads_of}
@@ -64,7 +64,7 @@ module _ (place : Place) (row : FileRow) (its : place.file ≡ row.file) (t : Te
       at true = tt
       at false = (next_stands place.node row t place.file head i is stands, tt)
 
-  sent_stands : (issued : Option IssuedUpdate) → IfMessage row (unacked place.file place.node issued) → (o : Option PeerState) → IfMessage row (of_peer (sent_again place t.epoch issued) place.node o)
+  sent_stands : (issued : Option IssuedUpdate) → IfMessage row (unacked place.file place.node issued) → (o : Option PeerState) → IfMessage row (of_peer (resend place t.epoch issued) place.node o)
   sent_stands issued is None = tt
   sent_stands issued is (Some peer.Unknown) = (stands.promised, tt)
   sent_stands issued is (Some peer.Current) = is
@@ -80,7 +80,7 @@ module _ (place : Place) (row : FileRow) (its : place.file ≡ row.file) (t : Te
   unknown_about (Some (peer.Heading known head)) = tt
   unknown_about (Some peer.Current) = tt
 
-  again_about : (issued : Option IssuedUpdate) (o : Option PeerState) → IfAbout row.file (of_peer (sent_again place t.epoch issued) place.node o)
+  again_about : (issued : Option IssuedUpdate) (o : Option PeerState) → IfAbout row.file (of_peer (resend place t.epoch issued) place.node o)
   again_about issued None = tt
   again_about issued (Some peer.Unknown) = ap (λ (f : FileId). Some f) its
   again_about issued (Some (peer.Reported head)) = tt
@@ -108,9 +108,9 @@ module _ (place : Place) (row : FileRow) (its : place.file ≡ row.file) (t : Te
       other : ProgressStands place.node row.head t (progress.Fetching chosen source asked later) → (source.0 == place.node.0) ≡ false
       other parts = parts.1
   woken_again (progress.Installing chosen acked) is =
-      record { sent = of_peer (sent_again place t.epoch None) place.node (peer_in t.peers place.node); is = mine-peers place.node (sent_again place t.epoch None) t.peers apart; stands = sent_stands None tt (peer_in t.peers place.node); leads = leads_any (of_peer (sent_again place t.epoch None) place.node (peer_in t.peers place.node)); about = again_about None (peer_in t.peers place.node) }
+      record { sent = of_peer (resend place t.epoch None) place.node (peer_in t.peers place.node); is = mine-peers place.node (resend place t.epoch None) t.peers apart; stands = sent_stands None tt (peer_in t.peers place.node); leads = leads_any (of_peer (resend place t.epoch None) place.node (peer_in t.peers place.node)); about = again_about None (peer_in t.peers place.node) }
   woken_again (progress.Active head issued) is =
-      record { sent = of_peer (sent_again place t.epoch issued) place.node (peer_in t.peers place.node); is = mine-peers place.node (sent_again place t.epoch issued) t.peers apart; stands = sent_stands issued (unacked_again head issued is) (peer_in t.peers place.node); leads = leads_any (of_peer (sent_again place t.epoch issued) place.node (peer_in t.peers place.node)); about = again_about issued (peer_in t.peers place.node) }
+      record { sent = of_peer (resend place t.epoch issued) place.node (peer_in t.peers place.node); is = mine-peers place.node (resend place t.epoch issued) t.peers apart; stands = sent_stands issued (unacked_again head issued is) (peer_in t.peers place.node); leads = leads_any (of_peer (resend place t.epoch issued) place.node (peer_in t.peers place.node)); about = again_about issued (peer_in t.peers place.node) }
 
 under_again : (place : Place) (row : FileRow) (its : place.file ≡ row.file) (o : Option Tenure) → IfTenure place.node row.head o → ((t : Tenure) → o ≡ Some t → are_distinct (nodes_of t.peers) ≡ true) → Again place.node row o (wakes_under place o).outs
 under_again place row its None stands apart = record { sent = None; is = refl; stands = tt; leads = tt; about = tt }

@@ -17,7 +17,7 @@ use Rattle.xt_protocol.specs.declared.states.Progress.TheVariants as progress
 use Rattle.xt_protocol.specs.declared.states.Tenure.{Tenure}
 use Rattle.xt_protocol.specs.Turns.{message, quiet, sends}
 use Rattle.xt_protocol.specs.Primaries.{Ground, is_active_in, issued_in, with_node, with_peer}
-use Rattle.xt_protocol.specs.PrimaryRows.{goes_on, hears_ack, unmoved, update_acked}
+use Rattle.xt_protocol.specs.PrimaryRows.{goes_on, hears_ack, unmoved, ack_update}
 use Rattle.replica_primary.specs.Acks.{acked_by, is_installing, peers_after}
 
 -- the head that is installed is acknowledged
@@ -55,10 +55,10 @@ module _ (g : Ground) (learnt : ℕ) (epoch : Epoch) (peers : List Peer) (from :
       ≡ hears_ack g learnt (before (progress.Active head (Some issued))) (progress.Active head (Some issued)) from newly stamp
   below_issued true head issued is =
       let t = after true (progress.Active head (Some issued)) in
-      sym (ap (λ (b : Bool). cond (not b) (update_acked g learnt t head issued.update (with_node issued.acked from)) (goes_on learnt t (newly_told g from true issued.update))) is)
+      sym (ap (λ (b : Bool). cond (not b) (ack_update g learnt t head issued.update (with_node issued.acked from)) (goes_on learnt t (newly_told g from true issued.update))) is)
   below_issued false head issued is =
       let t = after false (progress.Active head (Some issued)) in
-      sym (ap (λ (b : Bool). cond (not b) (update_acked g learnt t head issued.update (with_node issued.acked from)) (unmoved learnt t)) is)
+      sym (ap (λ (b : Bool). cond (not b) (ack_update g learnt t head issued.update (with_node issued.acked from)) (unmoved learnt t)) is)
 
   -- it is of an update below the issued one
   pub below_acked : (newly : Bool) (p : Progress) (issued : IssuedUpdate) → is_active_in p ≡ true → issued_in p ≡ Some issued → is_below stamp issued.update.stamp ≡ true
@@ -78,10 +78,10 @@ module _ (g : Ground) (learnt : ℕ) (epoch : Epoch) (peers : List Peer) (from :
       ≡ hears_ack g learnt (before (progress.Active head (Some issued))) (progress.Active head (Some issued)) from newly stamp
   of_issued true head issued is =
       let t = after true (progress.Active head (Some issued)) in
-      sym (ap (λ (b : Bool). cond (not b) (update_acked g learnt t head issued.update (with_node issued.acked from)) (goes_on learnt t (newly_told g from true issued.update))) is)
+      sym (ap (λ (b : Bool). cond (not b) (ack_update g learnt t head issued.update (with_node issued.acked from)) (goes_on learnt t (newly_told g from true issued.update))) is)
   of_issued false head issued is =
       let t = after false (progress.Active head (Some issued)) in
-      sym (ap (λ (b : Bool). cond (not b) (update_acked g learnt t head issued.update (with_node issued.acked from)) (unmoved learnt t)) is)
+      sym (ap (λ (b : Bool). cond (not b) (ack_update g learnt t head issued.update (with_node issued.acked from)) (unmoved learnt t)) is)
 
   -- it is of the issued update
   pub issued_acked : (newly : Bool) (p : Progress) (issued : IssuedUpdate) → is_active_in p ≡ true → issued_in p ≡ Some issued → is_below stamp issued.update.stamp ≡ false

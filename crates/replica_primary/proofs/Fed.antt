@@ -12,7 +12,7 @@ use Rattle.xt_protocol.specs.declared.turned.Turned.{Turned}
 use Rattle.xt_protocol.specs.declared.states.Peer.{Peer}
 use Rattle.xt_protocol.specs.Turns.{sends}
 use Rattle.xt_protocol.specs.Primaries.{Ground, fed, if_any, last_sent, with_peer}
-use Rattle.xt_protocol.specs.PrimaryRows.{body_missed, body_staged, feeds, goes_on, peer_sent, target_in, unmoved, with_state}
+use Rattle.xt_protocol.specs.PrimaryRows.{body_missed, body_staged, feeds, goes_on, send_to_peer, target_in, unmoved, with_state}
 use Rattle.peer_searches.specs.Sound.{known_in}
 use Rattle.replica_primary.specs.Feeding.{is_at_head}
 use Rattle.replica_primary.specs.Moves.{feeds_any, misses_in, stages_in}
@@ -39,7 +39,7 @@ module _ (g : Ground) (learnt : ℕ) (t : Tenure) (from : NodeId) where
   pub fed_by : (after : Tenure) (turned : Turned) (state : PeerState) (head : FileHead) (known : List ObjectVersion) → after ≡ with_state t from state
       → turned ≡ sends (if_any g.place.node from (last_sent g.place.file t.epoch state)) → state ≡ fed g.body head known
       → goes_on learnt after turned ≡ feeds g learnt t from head known
-  fed_by after turned state head known put sent is = (λ i. goes_on learnt (put i) (sent i)) ∙ ap (λ (s : PeerState). peer_sent g learnt t from s) is
+  fed_by after turned state head known put sent is = (λ i. goes_on learnt (put i) (sent i)) ∙ ap (λ (s : PeerState). send_to_peer g learnt t from s) is
 
   -- the same where the state was taken out before
   pub set_anew : (peers : List Peer) (after : Tenure) (old state : PeerState) → peers ≡ with_peer t.peers from old

@@ -26,7 +26,7 @@ use Rattle.xt_protocol.specs.declared.states.Progress.TheVariants as progress
 use Rattle.xt_protocol.specs.declared.states.Tenure.{Tenure}
 use Rattle.xt_protocol.specs.Choice.{chosen_of, difference}
 use Rattle.xt_protocol.specs.Primaries.{Ground, Led, fed, known_of_report, is_reported, is_unknown, known_of_own, last_to_each, majority_among, nodes_of, peer_in, report_of, reports_of, statuses_counted, target_of, with_peer}
-use Rattle.xt_protocol.specs.PrimaryRows.{after_keeping, body_beyond, body_fetched, body_missed, chooses, epoch_drawn, fetches, forgotten, goes_on, head_chosen, hears_epoch, hears_member, hears_missing, hears_object, hears_peer, hears_status, installs, peer_fed, peers_fed, status_counted, status_told, target_in, unmoved}
+use Rattle.xt_protocol.specs.PrimaryRows.{after_keeping, body_beyond, take_body, body_missed, chooses, draw_epoch, fetches, forgotten, goes_on, choose_head, hears_epoch, hears_member, hears_missing, hears_object, hears_peer, hears_status, installs, feed_peer, feed_peers, status_counted, take_status, target_in, unmoved}
 use Rattle.xt_protocol.specs.PrimaryRows as rows
 use Rattle.xt_protocol.specs.Turns.{message, quiet, sends}
 use Rattle.osd_decisions.specs.Reports.{best_report}
@@ -45,7 +45,7 @@ not_is_not false is = absurd cc
 
 -- another peer that has reported is fed
 feed_of : (h : Ground) (target : FileHead) (node : NodeId) (state fed_as : PeerState) → is_to_feed h.place (record { node = node; state = state }) ≡ true
-    → ((head : FileHead) → state ≡ peer.Reported head → fed_as ≡ fed h.body target (known_of_report head)) → fed_as ≡ peer_fed h target node state
+    → ((head : FileHead) → state ≡ peer.Reported head → fed_as ≡ fed h.body target (known_of_report head)) → fed_as ≡ feed_peer h target node state
 feed_of h target node (peer.Reported head) fed_as is fed_is =
     fed_is head refl ∙ sym (ap (λ (b : Bool). cond b (peer.Reported head) (fed h.body target (known_of_report head))) (not_is (node.0 == h.place.node.0) is))
 feed_of h target node peer.Unknown fed_as is fed_is = absurd cc
@@ -55,11 +55,11 @@ feed_of h target node peer.Current fed_as is fed_is = absurd cc
 
 pub feed_to : (h : Ground) (target : FileHead) (p : Peer) (fed_as : PeerState) → is_to_feed h.place p ≡ true
     → ((head : FileHead) → p.state ≡ peer.Reported head → fed_as ≡ fed h.body target (known_of_report head))
-    → (let q : Peer = record { node = p.node; state = fed_as } in q) ≡ record { node = p.node; state = peer_fed h target p.node p.state }
+    → (let q : Peer = record { node = p.node; state = fed_as } in q) ≡ record { node = p.node; state = feed_peer h target p.node p.state }
 feed_to h target p fed_as is fed_is = ap (λ (s : PeerState). let q : Peer = record { node = p.node; state = s } in q) (feed_of h target p.node p.state fed_as is fed_is)
 
 -- any other peer stays as it is
-left_of : (h : Ground) (target : FileHead) (node : NodeId) (state : PeerState) → is_to_feed h.place (record { node = node; state = state }) ≡ false → state ≡ peer_fed h target node state
+left_of : (h : Ground) (target : FileHead) (node : NodeId) (state : PeerState) → is_to_feed h.place (record { node = node; state = state }) ≡ false → state ≡ feed_peer h target node state
 left_of h target node (peer.Reported head) is =
     sym (ap (λ (b : Bool). cond b (peer.Reported head) (fed h.body target (known_of_report head))) (not_is_not (node.0 == h.place.node.0) is))
 left_of h target node peer.Unknown is = refl
@@ -67,7 +67,7 @@ left_of h target node (peer.Feeding known object version body) is = refl
 left_of h target node (peer.Heading known head) is = refl
 left_of h target node peer.Current is = refl
 
-pub left_as : (h : Ground) (target : FileHead) (p : Peer) → is_to_feed h.place p ≡ false → p ≡ record { node = p.node; state = peer_fed h target p.node p.state }
+pub left_as : (h : Ground) (target : FileHead) (p : Peer) → is_to_feed h.place p ≡ false → p ≡ record { node = p.node; state = feed_peer h target p.node p.state }
 left_as h target p is = ap (λ (s : PeerState). let q : Peer = record { node = p.node; state = s } in q) (left_of h target p.node p.state is)
 
 -- a report more, where there is one
@@ -96,12 +96,12 @@ best_at own (r ∷ rs) i d some best is = by (slice_get_cases (r ∷ rs) i).1
 
 -- installed, part by part
 pub installed : (g : Ground) (learnt : ℕ) (t installing : Tenure) (chosen target : FileHead) (peers : List Peer) (turned : Turned) (acked : List NodeId)
-    → installing ≡ record t { progress = progress.Installing chosen acked } → target ≡ target_of g.own t.epoch chosen → peers ≡ peers_fed g target installing.peers
+    → installing ≡ record t { progress = progress.Installing chosen acked } → target ≡ target_of g.own t.epoch chosen → peers ≡ feed_peers g target installing.peers
     → turned ≡ sends (message g.place.node g.place.node (payload.Head g.place.file installing.epoch target) ∷ last_to_each g.place installing.epoch peers) → acked ≡ []
     → goes_on learnt (record installing { peers = peers }) turned ≡ installs g learnt t chosen
 installed g learnt t installing chosen target peers turned acked it ith iph ith2 iah =
     let head = λ (s : Tenure) (h : FileHead). message g.place.node g.place.node (payload.Head g.place.file s.epoch h) in
-    let led = λ (s : Tenure) (h : FileHead). goes_on learnt (record s { peers = peers_fed g h s.peers }) (sends (head s h ∷ last_to_each g.place s.epoch (peers_fed g h s.peers))) in
+    let led = λ (s : Tenure) (h : FileHead). goes_on learnt (record s { peers = feed_peers g h s.peers }) (sends (head s h ∷ last_to_each g.place s.epoch (feed_peers g h s.peers))) in
     ap (λ (u : Turned). goes_on learnt (record installing { peers = peers }) u) ith2
     ∙ ap (λ (ps : List Peer). goes_on learnt (record installing { peers = ps }) (sends (head installing target ∷ last_to_each g.place installing.epoch ps))) iph
     ∙ ap (λ (h : FileHead). led installing h) ith
@@ -149,7 +149,7 @@ fetched_on g learnt t taken p chosen source asked later chosen' source' asked' l
 -- a body that has come is kept first, where it wasn't held
 pub kept_first : (g : Ground) (learnt : ℕ) (t : Tenure) (chosen : FileHead) (source : NodeId) (later : List ObjectVersion) (object : ℕ) (version : Stamp) (bytes : List ℕ) (fetched : Option FetchedBody)
     → kept_of g.place.file fetched ≡ stage_record g.place.file g.held object version bytes
-    → after_keeping (kept_of g.place.file fetched) (fetches (beyond g fetched) learnt t chosen source later) ≡ body_fetched g learnt t chosen source later object version bytes
+    → after_keeping (kept_of g.place.file fetched) (fetches (beyond g fetched) learnt t chosen source later) ≡ take_body g learnt t chosen source later object version bytes
 kept_first g learnt t chosen source later object version bytes fetched is =
     let stands = λ (rec : Option Record). let h : Ground = record g { body = body_beyond g.place.file rec g.body } in h in
     ap (λ (rec : Option Record). after_keeping rec (fetches (stands rec) learnt t chosen source later)) is
@@ -185,22 +185,22 @@ other_forgotten peer.Current other = refl
 module _ (g : Ground) (learnt : ℕ) (t : Tenure) where
   -- the best report is chosen
   pub chooses_best : (reports : List (NodeId × FileHead)) (best : NodeId × FileHead) → Some best ≡ best_report g.place.node reports
-      → head_chosen g learnt t best ≡ chooses g learnt t reports
+      → choose_head g learnt t best ≡ chooses g learnt t reports
   chooses_best [] best is = absurd cc
-  chooses_best (first ∷ others) best is = let same : best ≡ chosen_of g.place.node first others = cc in ap (λ (b : NodeId × FileHead). head_chosen g learnt t b) same
+  chooses_best (first ∷ others) best is = let same : best ≡ chosen_of g.place.node first others = cc in ap (λ (b : NodeId × FileHead). choose_head g learnt t b) same
 
   -- a majority has reported
   pub majority_told : nat_le (majority_among t.peers) (statuses_counted t.peers) ≡ true → chooses g learnt t (reports_of t.peers) ≡ status_counted g learnt t
   majority_told is = sym (ap (λ (b : Bool). cond b (chooses g learnt t (reports_of t.peers)) (unmoved learnt t)) is)
 
   -- the own head is chosen, or another one
-  pub own_chosen : (best : NodeId × FileHead) → best.0.0 ≡ g.place.node.0 → installs g learnt t best.1 ≡ head_chosen g learnt t best
+  pub own_chosen : (best : NodeId × FileHead) → best.0.0 ≡ g.place.node.0 → installs g learnt t best.1 ≡ choose_head g learnt t best
   own_chosen best same =
       let is : (best.0.0 == g.place.node.0) ≡ true = grind arith in
       sym (ap (λ (b : Bool). cond b (installs g learnt t best.1) (fetches g learnt t best.1 best.0 (difference (known_of_own g.held) best.1.versions))) is)
 
   pub other_chosen : (best : NodeId × FileHead) → (best.0.0 ≡ g.place.node.0 → ⊥)
-      → fetches g learnt t best.1 best.0 (difference (known_of_own g.held) best.1.versions) ≡ head_chosen g learnt t best
+      → fetches g learnt t best.1 best.0 (difference (known_of_own g.held) best.1.versions) ≡ choose_head g learnt t best
   other_chosen best differ =
       let is : (best.0.0 == g.place.node.0) ≡ false = grind arith in
       sym (ap (λ (b : Bool). cond b (installs g learnt t best.1) (fetches g learnt t best.1 best.0 (difference (known_of_own g.held) best.1.versions))) is)
@@ -208,10 +208,10 @@ module _ (g : Ground) (learnt : ℕ) (t : Tenure) where
   -- the object is the one that was asked for
   pub asked_object : (p : Progress) (from : NodeId) (v : ObjectVersion) (bytes : List ℕ) (led : Led) → is_asked p from v ≡ true
       → ((chosen : FileHead) (source : NodeId) (asked : ObjectVersion) (later : List ObjectVersion) → p ≡ progress.Fetching chosen source asked later
-      → led ≡ body_fetched g learnt t chosen source (reverse later) v.object v.version bytes)
+      → led ≡ take_body g learnt t chosen source (reverse later) v.object v.version bytes)
       → led ≡ hears_object g learnt t (shown_progress p) from v.object v.version bytes
   asked_object (progress.Fetching chosen source asked later) from v bytes led is by =
-      by chosen source asked later refl ∙ sym (ap (λ (b : Bool). cond b (body_fetched g learnt t chosen source (reverse later) v.object v.version bytes) (unmoved learnt t)) is)
+      by chosen source asked later refl ∙ sym (ap (λ (b : Bool). cond b (take_body g learnt t chosen source (reverse later) v.object v.version bytes) (unmoved learnt t)) is)
   asked_object progress.Gathering from v bytes led is by = absurd cc
   asked_object (progress.Installing chosen acked) from v bytes led is by = absurd cc
   asked_object (progress.Active committed issued) from v bytes led is by = absurd cc
@@ -219,26 +219,26 @@ module _ (g : Ground) (learnt : ℕ) (t : Tenure) where
   -- any other object does nothing
   pub other_object : (p : Progress) (from : NodeId) (v : ObjectVersion) (bytes : List ℕ) → is_asked p from v ≡ false → unmoved learnt t ≡ hears_object g learnt t (shown_progress p) from v.object v.version bytes
   other_object (progress.Fetching chosen source asked later) from v bytes is =
-      sym (ap (λ (b : Bool). cond b (body_fetched g learnt t chosen source (reverse later) v.object v.version bytes) (unmoved learnt t)) is)
+      sym (ap (λ (b : Bool). cond b (take_body g learnt t chosen source (reverse later) v.object v.version bytes) (unmoved learnt t)) is)
   other_object progress.Gathering from v bytes is = refl
   other_object (progress.Installing chosen acked) from v bytes is = refl
   other_object (progress.Active committed issued) from v bytes is = refl
 
   -- the first status of a peer
   pub first_status : (from : NodeId) (state : PeerState) (head : FileHead) → is_unknown state ≡ true
-      → status_told g learnt t t.progress from head ≡ hears_status g learnt t from state head
-  first_status from state head is = sym (ap (λ (b : Bool). cond b (status_told g learnt t t.progress from head) (unmoved learnt t)) is)
+      → take_status g learnt t t.progress from head ≡ hears_status g learnt t from state head
+  first_status from state head is = sym (ap (λ (b : Bool). cond b (take_status g learnt t t.progress from head) (unmoved learnt t)) is)
 
   -- a status that comes while the head is installed, or later
   pub installing_told : (p : Progress) (chosen : FileHead) (acked : List NodeId) (from : NodeId) (head : FileHead) → p ≡ progress.Installing chosen acked
-      → feeds_any g learnt t (target_in g.own t.epoch p) from (Some (known_of_report head)) ≡ status_told g learnt t p from head
+      → feeds_any g learnt t (target_in g.own t.epoch p) from (Some (known_of_report head)) ≡ take_status g learnt t p from head
   installing_told p chosen acked from head is =
-      ap (λ (q : Progress). feeds_any g learnt t (target_in g.own t.epoch q) from (Some (known_of_report head))) is ∙ ap (λ (q : Progress). status_told g learnt t q from head) (sym is)
+      ap (λ (q : Progress). feeds_any g learnt t (target_in g.own t.epoch q) from (Some (known_of_report head))) is ∙ ap (λ (q : Progress). take_status g learnt t q from head) (sym is)
 
   pub active_told : (p : Progress) (committed : FileHead) (issued : Option IssuedUpdate) (from : NodeId) (head : FileHead) → p ≡ progress.Active committed issued
-      → feeds_any g learnt t (target_in g.own t.epoch p) from (Some (known_of_report head)) ≡ status_told g learnt t p from head
+      → feeds_any g learnt t (target_in g.own t.epoch p) from (Some (known_of_report head)) ≡ take_status g learnt t p from head
   active_told p committed issued from head is =
-      ap (λ (q : Progress). feeds_any g learnt t (target_in g.own t.epoch q) from (Some (known_of_report head))) is ∙ ap (λ (q : Progress). status_told g learnt t q from head) (sym is)
+      ap (λ (q : Progress). feeds_any g learnt t (target_in g.own t.epoch q) from (Some (known_of_report head))) is ∙ ap (λ (q : Progress). take_status g learnt t q from head) (sym is)
 
   -- a body is missed once no body is fetched any more
   pub missed_later : (p : Progress) (from : NodeId) (state : PeerState) (v : ObjectVersion) → source_in p ≡ None
@@ -257,7 +257,7 @@ module _ (g : Ground) (learnt : ℕ) (t : Tenure) where
       ∙ ap (λ (s : Option PeerState). hears_member g learnt t from s content) is)
 
   redraw : (from : NodeId) (b : Bool) (above : ℕ)
-      → led_by g learnt from t (cond b (heard.Redraws above) (heard.GoesOn (step.Gives quiet))) ≡ cond b (epoch_drawn g.place above g.own (nodes_of t.peers)) (unmoved learnt t)
+      → led_by g learnt from t (cond b (heard.Redraws above) (heard.GoesOn (step.Gives quiet))) ≡ cond b (draw_epoch g.place above g.own (nodes_of t.peers)) (unmoved learnt t)
   redraw from true above = refl
   redraw from false above = refl
 

@@ -23,7 +23,7 @@ use Rattle.xt_protocol.specs.declared.states.Progress.TheVariants as progress
 use Rattle.xt_protocol.specs.declared.states.Tenure.{Tenure}
 use Rattle.xt_protocol.specs.declared.states.PrimaryState.{PrimaryState}
 use Rattle.xt_protocol.specs.Primaries.{Ground, Led, carries, nodes_of, peer_in, with_node}
-use Rattle.xt_protocol.specs.PrimaryRows.{acked_below, body_missed, body_staged, epoch_above, epoch_drawn, hears_ack, hears_in, target_in, with_state}
+use Rattle.xt_protocol.specs.PrimaryRows.{acked_below, body_missed, body_staged, epoch_above, draw_epoch, hears_ack, hears_in, target_in, with_state}
 use Rattle.xt_protocol.specs.Serving.{reads, wakes, writes, writes_under}
 use Rattle.osd_decisions.specs.Committed.{CommittedUnder}
 use Rattle.replica_primary.specs.declared.moving.Heard.{Heard}
@@ -100,8 +100,8 @@ module _ (g : Ground) (learnt : ℕ) (epoch : Epoch) (from : NodeId) (stamp : St
 
 -- A tenure begins.
 
-pub drawn_shown : (place : Place) (learnt : ℕ) (own : FileHead) (nodes : List NodeId) → shown_led (epoch_drawn place learnt own nodes) ≡ epoch_drawn place learnt own nodes
-unfolding epoch_drawn
+pub drawn_shown : (place : Place) (learnt : ℕ) (own : FileHead) (nodes : List NodeId) → shown_led (draw_epoch place learnt own nodes) ≡ draw_epoch place learnt own nodes
+unfolding draw_epoch
 drawn_shown place learnt own nodes = either (nat_lt (epoch_above place learnt own).number COUNTS) _ _ refl refl
 
 -- How a tenure goes on.

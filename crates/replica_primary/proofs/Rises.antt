@@ -21,7 +21,7 @@ use Rattle.xt_protocol.specs.declared.states.Progress.TheVariants as progress
 use Rattle.xt_protocol.specs.declared.states.Tenure.{Tenure}
 use Rattle.xt_protocol.specs.ReplicaRows.{stage_record}
 use Rattle.xt_protocol.specs.Primaries.{Ground, Led, carries, is_unknown, majority_among, nodes_of, peer_in, reports_of, statuses_counted, with_node}
-use Rattle.xt_protocol.specs.PrimaryRows.{epoch_drawn, epoch_above, epoch_told, fetches, head_chosen, chooses, status_counted, status_told, with_state, body_beyond, hears_object, body_staged, body_missed, hears_missing, target_in, update_acked, acked_below, hears_ack, makes_current, hears_peer, hears_member, hears_epoch, hears_in, committed}
+use Rattle.xt_protocol.specs.PrimaryRows.{draw_epoch, epoch_above, message_epoch, fetches, choose_head, chooses, status_counted, take_status, with_state, body_beyond, hears_object, body_staged, body_missed, hears_missing, target_in, ack_update, acked_below, hears_ack, makes_current, hears_peer, hears_member, hears_epoch, hears_in, committed}
 use Rattle.object_versions.specs.Rising.{HeadRises}
 use Rattle.osd_decisions.specs.Committed.{CommittedRises, CommittedUnder}
 
@@ -32,8 +32,8 @@ either : (b : Bool) (x y : Led) → LedRises x → LedRises y → LedRises (cond
 either true x y l r = l
 either false x y l r = r
 
-drawn : (place : Place) (learnt : ℕ) (own : FileHead) (nodes : List NodeId) → LedRises (epoch_drawn place learnt own nodes)
-unfolding epoch_drawn
+drawn : (place : Place) (learnt : ℕ) (own : FileHead) (nodes : List NodeId) → LedRises (draw_epoch place learnt own nodes)
+unfolding draw_epoch
 drawn place learnt own nodes = either (nat_lt (epoch_above place learnt own).number COUNTS) _ _ tt tt
 
 module _ (g : Ground) (learnt : ℕ) where
@@ -45,13 +45,13 @@ module _ (g : Ground) (learnt : ℕ) where
   chose t r [] = r
   chose t r (first ∷ others) = chosen _
     where
-      chosen : (best : NodeId × FileHead) → LedRises (head_chosen g learnt t best)
+      chosen : (best : NodeId × FileHead) → LedRises (choose_head g learnt t best)
       chosen best = either (best.0.0 == g.place.node.0) _ _ tt (fetched g t best.1 best.0 _)
 
   counted : (t : Tenure) → CommittedRises t.progress → LedRises (status_counted g learnt t)
   counted t r = either (nat_le (majority_among t.peers) (statuses_counted t.peers)) _ _ (chose t r (reports_of t.peers)) r
 
-  told : (t : Tenure) → CommittedRises t.progress → (p : Progress) (from : NodeId) (head : FileHead) → LedRises (status_told g learnt t p from head)
+  told : (t : Tenure) → CommittedRises t.progress → (p : Progress) (from : NodeId) (head : FileHead) → LedRises (take_status g learnt t p from head)
   told t r progress.Gathering from head = counted (with_state t from (peer.Reported head)) r
   told t r (progress.Fetching chosen source asked later) from head = r
   told t r (progress.Installing chosen acked) from head = r
@@ -78,7 +78,7 @@ module _ (g : Ground) (learnt : ℕ) where
   missing t r p from state v = missed t r (target_in g.own t.epoch p) from state v
 
   module _ (o : HeadRises g.own) where
-    updated : (t : Tenure) (head : FileHead) → HeadRises head → (update : Update) (acked : List NodeId) → LedRises (update_acked g learnt t head update acked)
+    updated : (t : Tenure) (head : FileHead) → HeadRises head → (update : Update) (acked : List NodeId) → LedRises (ack_update g learnt t head update acked)
     updated t head r update acked = either (carries g.place t.peers acked) _ _ o r
 
     below : (t : Tenure) → CommittedRises t.progress → (head : FileHead) → HeadRises head → (from : NodeId) (stamp : Stamp) (newly : Bool) (issued : Option IssuedUpdate) → LedRises (acked_below g learnt t head from stamp newly issued)
@@ -115,7 +115,7 @@ module _ (g : Ground) (learnt : ℕ) where
 
     in_tenure : (tenure : Option Tenure) → CommittedUnder tenure → (from : NodeId) (content : Payload) → LedRises (hears_in g learnt tenure from content)
     in_tenure None r from content = tt
-    in_tenure (Some t) r from content = of_epoch t r from (epoch_told content) content
+    in_tenure (Some t) r from content = of_epoch t r from (message_epoch content) content
 
     -- A message leaves a committed head that rises.
     pub hears_rises : (tenure : Option Tenure) → CommittedUnder tenure → (from : NodeId) (content : Payload) (led : Led) → led ≡ hears_in g learnt tenure from content

@@ -16,7 +16,7 @@ use Rattle.xt_protocol.specs.declared.states.Progress.{Progress}
 use Rattle.xt_protocol.specs.declared.states.Progress.TheVariants as progress
 use Rattle.xt_protocol.specs.declared.states.Tenure.{Tenure}
 use Rattle.xt_protocol.specs.Primaries.{Ground, Led, carries, fed, fed_next, peer_in, with_node, with_peer}
-use Rattle.xt_protocol.specs.PrimaryRows.{acked_below, hears_ack, update_acked, with_state}
+use Rattle.xt_protocol.specs.PrimaryRows.{acked_below, hears_ack, ack_update, with_state}
 use Rattle.peer_searches.specs.declared.searches.Search.{Search}
 use Rattle.peer_searches.specs.Sound.{AreSound, known_in, known_of, with_search}
 use Rattle.peer_searches.proofs.Set.{gone_on, known_still, let_go}

@@ -33,14 +33,14 @@ with_ack (progress.Active committed (Some issued)) node = progress.Active commit
 with_ack p node = p
 
 -- a commit: its mark, and the answer to its client
-abbrev pub commit_told : Place → Update → Turned
-commit_told place update =
+abbrev pub report_commit : Place → Update → Turned
+report_commit place update =
     joined (shows (mark.Commit place.file.number update.stamp.count update.id))
     (answers place.node place.file update.id update.stamp.count update.mark [])
 
 -- what is reported when a majority has acknowledged: that the issued update is committed, or that the primary is active
 abbrev pub report_majority : Place → FileHead → Progress → Turned
-report_majority place own (progress.Active committed (Some issued)) = commit_told place issued.update
+report_majority place own (progress.Active committed (Some issued)) = report_commit place issued.update
 report_majority place own _ = shows (mark.Active place.file.number own.stamp.count own.last)
 
 -- a tenure whose head or issued update a node has acknowledged

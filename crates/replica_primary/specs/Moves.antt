@@ -19,7 +19,7 @@ use Rattle.xt_protocol.specs.declared.states.Progress.{Progress}
 use Rattle.xt_protocol.specs.declared.states.Progress.TheVariants as progress
 use Rattle.xt_protocol.specs.declared.states.Tenure.{Tenure}
 use Rattle.xt_protocol.specs.Primaries.{Ground, Led, is_reported, nodes_of, peer_in}
-use Rattle.xt_protocol.specs.PrimaryRows.{after_keeping, body_beyond, body_missed, body_staged, epoch_drawn, feeds, goes_on, installs, target_in, unmoved}
+use Rattle.xt_protocol.specs.PrimaryRows.{after_keeping, body_beyond, body_missed, body_staged, draw_epoch, feeds, goes_on, installs, target_in, unmoved}
 use Rattle.xt_protocol.specs.Turns.{quiet}
 use Rattle.peer_searches.specs.declared.searches.Search.{Search}
 use Rattle.peer_searches.specs.Sound.{AreSound}
@@ -88,7 +88,7 @@ led_by g learnt from t (heard.GoesOn n) = next_of g learnt from t n
 led_by g learnt from t (heard.Counts turned) = goes_on learnt t turned
 led_by g learnt from t (heard.Staged v) = stages_in g learnt t from (peer_in t.peers from) v
 led_by g learnt from t (heard.Missed v) = misses_in g learnt t from (peer_in t.peers from) v
-led_by g learnt from t (heard.Redraws above) = epoch_drawn g.place above g.own (nodes_of t.peers)
+led_by g learnt from t (heard.Redraws above) = draw_epoch g.place above g.own (nodes_of t.peers)
 
 -- What was heard leaves the searches for what peers lack as sound as they were. Of the other messages it isn't said.
 abbrev pub LeavesSearches : List Peer → List Peer → Heard → Type 0

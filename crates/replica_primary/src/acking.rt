@@ -9,7 +9,7 @@ ghost use Rattle.xt_protocol.specs.Primaries.{carries, is_active_in, issued_in};
 ghost use Rattle.xt_protocol.specs.PrimaryRows as rows;
 ghost use Rattle.xt_protocol.specs.PrimaryRows.{goes_on};
 ghost use Rattle.replica_primary.specs.Written.{ground};
-ghost use Rattle.replica_primary.specs.Acks.{acked_by, acked_in, report_majority, commit_told, is_installing, peers_after, with_ack};
+ghost use Rattle.replica_primary.specs.Acks.{acked_by, acked_in, report_majority, report_commit, is_installing, peers_after, with_ack};
 
 use crate::known::add_node;
 use crate::moving::advance;
@@ -77,8 +77,8 @@ fn is_carried(place: &Place, tenure: &Tenure) -> bool
 }
 
 /// A commit of this update: its mark, and the answer to its client.
-fn commit_told(alloc: Global, place: &Place, update: &Update) -> Result<Turned, OutOfMemory>
-    ensures { IfOk result (λ turned. turned ≡ commit_told place.now update.now) }
+fn report_commit(alloc: Global, place: &Place, update: &Update) -> Result<Turned, OutOfMemory>
+    ensures { IfOk result (λ turned. turned ≡ report_commit place.now update.now) }
 {
     let (file, id, count) = (&place.file, update.id, update.stamp.count);
     let mark = Mark::Commit {
@@ -106,7 +106,7 @@ fn report_majority(
         ..
     } = progress
     {
-        return commit_told(alloc, place, &issued.update);
+        return report_commit(alloc, place, &issued.update);
     }
     let mark = Mark::Active {
         file: place.file.number,
@@ -196,7 +196,7 @@ fn issued_in(progress: &Progress) -> Option<&IssuedUpdate>
 
 /// Peer acknowledged, while the primary is active: the issued update is acknowledged, or sent to a peer that has just become
 /// current.
-fn active_acked(
+fn ack_active(
     alloc: Global,
     place: &Place,
     tenure: &mut Tenure,
@@ -223,7 +223,7 @@ fn active_acked(
 }
 
 /// Peer acknowledged, while the head is installed.
-fn installing_acked(
+fn ack_installing(
     alloc: Global,
     place: &Place,
     tenure: &mut Tenure,
@@ -262,8 +262,8 @@ pub fn hears_ack(
         from newly stamp) }
 {
     match &tenure.progress {
-        Progress::Installing { .. } => { installing_acked(alloc, place, tenure, own, from, newly) }
-        Progress::Active { .. } => active_acked(alloc, place, tenure, own, from, newly, stamp),
+        Progress::Installing { .. } => { ack_installing(alloc, place, tenure, own, from, newly) }
+        Progress::Active { .. } => ack_active(alloc, place, tenure, own, from, newly, stamp),
         _ => Ok(quiet(alloc)),
     }
 }

@@ -36,8 +36,8 @@ fn gathers(
 }
 
 /// Epoch drawn: the own promise is kept, and all are asked. Without a number left the primary is idle.
-#[tactic(auto, unfolding(xt_protocol::specs::PrimaryRows::epoch_drawn))]
-pub fn epoch_drawn(
+#[tactic(auto, unfolding(xt_protocol::specs::PrimaryRows::draw_epoch))]
+pub fn draw_epoch(
     alloc: Global,
     place: &Place,
     learnt: u64,
@@ -48,7 +48,7 @@ pub fn epoch_drawn(
         record {
           primary = record { learnt = learnt; tenure = drawn.tenure };
           turned = drawn.turned;
-        } ≡ rows.epoch_drawn place.now learnt own.now members.now) }
+        } ≡ rows.draw_epoch place.now learnt own.now members.now) }
     ensures rises { IfOk result (λ drawn. CommittedUnder drawn.tenure) }
 {
     let greatest = own.promised.number.max(learnt);
@@ -106,8 +106,8 @@ pub fn redrawn(
         record {
           primary = record { learnt = learnt; tenure = drawn.tenure };
           turned = drawn.turned;
-        } ≡ rows.epoch_drawn place.now learnt own.now (nodes_of peers.now)) }
+        } ≡ rows.draw_epoch place.now learnt own.now (nodes_of peers.now)) }
 {
     let nodes = nodes_of(alloc, peers)?;
-    epoch_drawn(alloc, place, learnt, own, nodes.as_slice())
+    draw_epoch(alloc, place, learnt, own, nodes.as_slice())
 }

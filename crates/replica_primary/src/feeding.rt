@@ -166,7 +166,7 @@ fn sent_to(
 }
 
 /// A peer gets this state, and the message that leads to it.
-fn peer_sent(
+fn send_to_peer(
     alloc: Global,
     place: &Place,
     tenure: &mut Tenure,
@@ -244,7 +244,7 @@ pub fn feeds_on<B: Bodies>(
         known,
         0,
     )?;
-    Ok(peer_sent(alloc, place, tenure, from, state)?)
+    Ok(send_to_peer(alloc, place, tenure, from, state)?)
 }
 
 /// Whether a peer was sent a body or a head.
@@ -330,7 +330,7 @@ pub fn body_staged<B: Bodies>(
         known,
         passed,
     )?;
-    Ok(peer_sent(alloc, place, tenure, from, state)?)
+    Ok(send_to_peer(alloc, place, tenure, from, state)?)
 }
 
 /// Whether a peer was sent a head last.
@@ -380,5 +380,5 @@ pub fn body_missed<B: Bodies>(
         known,
         0,
     )?;
-    Ok(peer_sent(alloc, place, tenure, from, state)?)
+    Ok(send_to_peer(alloc, place, tenure, from, state)?)
 }

@@ -39,7 +39,7 @@ fn unless_held(held: &HeldSet, body: FetchedBody) -> Option<FetchedBody>
 }
 
 /// Body fetched: it is kept unless it is held, and the next one is asked for. The head may be fed with this very body.
-fn body_fetched(
+fn take_body(
     alloc: Global,
     place: &Place,
     tenure: &mut Tenure,
@@ -52,7 +52,7 @@ fn body_fetched(
         tenure.old.progress ≡ progress.Fetching chosen source asked later →
         next_of (ground place.now records own held.now) learnt from (shown_tenure tenure.new)
         next ≡
-        rows.body_fetched (ground place.now records own held.now) learnt (shown_tenure tenure.old)
+        rows.take_body (ground place.now records own held.now) learnt (shown_tenure tenure.old)
         chosen source (reverse later) body.object body.version body.bytes) }
 {
     let fetched = unless_held(held, body);
@@ -106,7 +106,7 @@ pub fn hears_object(
         version: version.version,
         bytes: bytes.copy(alloc)?,
     };
-    body_fetched(alloc, place, tenure, held, body)
+    take_body(alloc, place, tenure, held, body)
 }
 
 /// From whom bodies are fetched, if they are.

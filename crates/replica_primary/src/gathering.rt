@@ -88,7 +88,7 @@ fn known_of_report(alloc: Global, state: &PeerState) -> Result<HeldSet, OutOfMem
 }
 
 /// A peer that has reported is fed; the own node gets the head itself.
-fn peer_fed<B: Bodies>(
+fn feed_peer<B: Bodies>(
     bodies: &mut B,
     alloc: Global,
     place: &Place,
@@ -99,7 +99,7 @@ fn peer_fed<B: Bodies>(
     ensures value { OnOk result ((own : FileHead) (held : List ObjectVersion) →
         peer.new ≡ record {
           node = peer.old.node;
-          state = rows.peer_fed (ground_beyond place.now (B.records bodies.old)
+          state = rows.feed_peer (ground_beyond place.now (B.records bodies.old)
               fetched.now own held) target.now peer.old.node peer.old.state;
         }) }
     ensures reads { ReadsOnly B.records B.fault_count bodies.old bodies.new (fault_of result) }
@@ -116,7 +116,7 @@ fn peer_fed<B: Bodies>(
 }
 
 /// Each of these that has reported is fed; the own node gets the head itself.
-fn each_fed<B: Bodies>(
+fn feed_each<B: Bodies>(
     bodies: &mut B,
     alloc: Global,
     place: &Place,
@@ -125,18 +125,18 @@ fn each_fed<B: Bodies>(
     peers: &mut [Peer],
 ) -> Result<(), StepErr>
     ensures value { OnOk result (peers.new ≡
-        rows.peers_fed (ground_beyond place.now (B.records bodies.old) fetched.now target.now [])
+        rows.feed_peers (ground_beyond place.now (B.records bodies.old) fetched.now target.now [])
         target.now peers.old) }
     ensures reads { ReadsOnly B.records B.fault_count bodies.old bodies.new (fault_of result) }
 {
     for peer in peers.iter_mut() {
-        peer_fed(bodies, alloc, place, fetched, target, peer)?;
+        feed_peer(bodies, alloc, place, fetched, target, peer)?;
     }
     Ok(())
 }
 
 /// Each peer that has reported is fed; the own node gets the head itself.
-fn peers_fed<B: Bodies>(
+fn feed_peers<B: Bodies>(
     bodies: &mut B,
     alloc: Global,
     place: &Place,
@@ -145,16 +145,16 @@ fn peers_fed<B: Bodies>(
     peers: &mut Peers,
 ) -> Result<(), StepErr>
     ensures value { OnOk result (peers.new ≡
-        rows.peers_fed (ground_beyond place.now (B.records bodies.old) fetched.now target.now [])
+        rows.feed_peers (ground_beyond place.now (B.records bodies.old) fetched.now target.now [])
         target.now peers.old) }
     ensures reads { ReadsOnly B.records B.fault_count bodies.old bodies.new (fault_of result) }
 {
     let peers = peers.items.as_mut_slice();
-    each_fed(bodies, alloc, place, fetched, target, peers)
+    feed_each(bodies, alloc, place, fetched, target, peers)
 }
 
 /// The head goes to the node itself.
-fn head_sent(
+fn send_head(
     alloc: Global,
     place: &Place,
     epoch: Epoch,
@@ -173,7 +173,7 @@ fn head_sent(
 }
 
 /// The head to the node itself, and to each peer that is brought up to date what was sent to it last.
-fn install_sent(
+fn send_install(
     alloc: Global,
     place: &Place,
     epoch: Epoch,
@@ -185,7 +185,7 @@ fn install_sent(
         ∷ last_to_each place.now epoch peers.now)) }
 {
     let others = last_to_each(alloc, place.node, &place.file, epoch, peers)?;
-    let own = head_sent(alloc, place, epoch, target)?;
+    let own = send_head(alloc, place, epoch, target)?;
     join(own, sends(alloc, others))
 }
 
@@ -208,8 +208,8 @@ fn installs<B: Bodies>(
     let target = target_of(own, tenure.epoch, &chosen).copy(alloc)?;
     let acked = Seq::new(alloc);
     advance(tenure, Progress::Installing { chosen, acked });
-    peers_fed(bodies, alloc, place, fetched, &target, &mut tenure.peers)?;
-    Ok(install_sent(alloc, place, tenure.epoch, target, tenure.peers.as_slice())?)
+    feed_peers(bodies, alloc, place, fetched, &target, &mut tenure.peers)?;
+    Ok(send_install(alloc, place, tenure.epoch, target, tenure.peers.as_slice())?)
 }
 
 /// The next of the wanted versions, which stand last first, and the others.
@@ -247,7 +247,7 @@ pub fn install_and_keep<B: Bodies>(
 }
 
 /// A body is asked for, and the one is kept that was just fetched, if one was.
-fn fetch_sent(
+fn send_fetch(
     alloc: Global,
     place: &Place,
     epoch: Epoch,
@@ -308,7 +308,7 @@ pub fn fetches(
             later,
         },
     );
-    let turned = fetch_sent(alloc, place, tenure.epoch, source, asked, fetched)?;
+    let turned = send_fetch(alloc, place, tenure.epoch, source, asked, fetched)?;
     Ok(Next::Gives { turned })
 }
 
@@ -336,7 +336,7 @@ fn last_first(versions: Versions) -> Versions
 }
 
 /// Head chosen: the own one is installed; of another one the bodies are fetched that are wanted.
-fn head_chosen(
+fn choose_head(
     alloc: Global,
     place: &Place,
     tenure: &mut Tenure,
@@ -348,7 +348,7 @@ fn head_chosen(
         (learnt : ℕ) (from : NodeId) (records : List Record) (own : FileHead) →
         next_of (ground place.now records own held.now) learnt from (shown_tenure tenure.new)
         next ≡
-        rows.head_chosen (ground place.now records own held.now) learnt (shown_tenure tenure.old)
+        rows.choose_head (ground place.now records own held.now) learnt (shown_tenure tenure.old)
         (source, chosen)) }
 {
     if source.0 == place.node.0 {
@@ -381,7 +381,7 @@ fn chooses(
     }
     let (source, chosen) = &reports[choose(place.node, reports)];
     let chosen = chosen.copy(alloc)?;
-    head_chosen(alloc, place, tenure, held, *source, chosen)
+    choose_head(alloc, place, tenure, held, *source, chosen)
 }
 
 /// Status counted: at a majority a head is chosen.
@@ -421,7 +421,7 @@ fn status_kept(
 }
 
 /// A status of an unknown peer: counted, kept until the head is installed, or late, and then the peer is fed.
-pub fn status_told(
+pub fn take_status(
     alloc: Global,
     place: &Place,
     tenure: &mut Tenure,
@@ -432,7 +432,7 @@ pub fn status_told(
     ensures { IfOk result (λ next. (learnt : ℕ) (records : List Record) (own : FileHead) →
         next_of (ground place.now records own held.now) learnt from (shown_tenure tenure.new)
         next ≡
-        rows.status_told (ground place.now records own held.now) learnt (shown_tenure tenure.old)
+        rows.take_status (ground place.now records own held.now) learnt (shown_tenure tenure.old)
         (shown_progress tenure.old.progress) from head.now) }
 {
     match &tenure.progress {

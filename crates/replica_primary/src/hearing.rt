@@ -23,7 +23,7 @@ use crate::acking::{hears_ack, makes_current};
 use crate::drawing::redrawn;
 use crate::feeding::{body_missed, body_staged, feeds_on};
 use crate::fetching::{hears_missing, hears_object};
-use crate::gathering::{install_and_keep, status_told};
+use crate::gathering::{install_and_keep, take_status};
 use crate::moving::{Heard, Next, put, unmoved};
 use crate::peers::{peer_in, set_peer};
 use object_versions::{Bodies, StepErr, is_earlier, is_epoch};
@@ -65,7 +65,7 @@ fn hears_status(
     if !is_unknown(tenure.peers.as_slice(), from) {
         return Ok(unmoved(alloc));
     }
-    status_told(alloc, place, tenure, held, from, head)
+    take_status(alloc, place, tenure, held, from, head)
 }
 
 /// Whether an acknowledgement makes this peer current.
@@ -144,8 +144,8 @@ fn outpromised(alloc: Global, learnt: u64, epoch: Epoch, promised: Epoch) -> Hea
 }
 
 /// The epoch of a message to a primary.
-fn epoch_told(payload: &Payload) -> Option<Epoch>
-    ensures { result ≡ rows.epoch_told payload.now }
+fn message_epoch(payload: &Payload) -> Option<Epoch>
+    ensures { result ≡ rows.message_epoch payload.now }
 {
     match payload {
         Payload::Status { epoch, .. }
@@ -273,7 +273,7 @@ fn hears_in(
         (Some (shown_tenure tenure.old)) from payload.now) }
     ensures searches { IfOk result (LeavesSearches tenure.old.peers tenure.new.peers) }
 {
-    let Some(epoch) = epoch_told(payload) else {
+    let Some(epoch) = message_epoch(payload) else {
         return Ok(unheard(alloc));
     };
     if !is_epoch(epoch, tenure.epoch) {
@@ -334,7 +334,7 @@ fn redraws(
     above: u64,
 ) -> Result<Turned, OutOfMemory>
     ensures row { IfOk result (λ turned. record { primary = primary.new; turned = turned } ≡
-        rows.epoch_drawn place.now above own.now (nodes_of (peers_under primary.old.tenure))) }
+        rows.draw_epoch place.now above own.now (nodes_of (peers_under primary.old.tenure))) }
     ensures kept { OnErr result (primary.new ≡ primary.old) }
 {
     let drawn = redrawn(alloc, place, above, own, peers_under(&primary.tenure))?;

@@ -1,6 +1,6 @@
 ghost use Rattle.std.specs.Prelude.{◌≡◌, List, None, Some, IfOk, IfNone, OnErr};
 ghost use Rattle.xt_protocol.specs.Primaries as rows;
-ghost use Rattle.xt_protocol.specs.PrimaryRows.{epoch_drawn, hears};
+ghost use Rattle.xt_protocol.specs.PrimaryRows.{draw_epoch, hears};
 ghost use Rattle.xt_protocol.specs.Serving.{reads, wakes, writes};
 ghost use Rattle.xt_messages.specs.declared.file.FileHead.{FileHead};
 ghost use Rattle.xt_messages.specs.declared.file.ObjectVersion.{ObjectVersion};
@@ -14,7 +14,7 @@ ghost use Rattle.replica_primary.specs.Phases.{phase_in, phase_of};
 ghost use Rattle.replica_primary.specs.Rests.{chosen_by, rested_on, rests_on};
 ghost use Rattle.std.specs.Option.{option_map};
 
-use crate::drawing::epoch_drawn;
+use crate::drawing::draw_epoch;
 use crate::hearing::hears;
 use crate::moving::put;
 use crate::peers::peer_in;
@@ -100,15 +100,15 @@ impl Primary {
         requires { turn.now.node ≡ self.old.place.node }
         ensures state { IfOk result (λ led. self.new ≡
             record self.old {
-              state = (epoch_drawn self.old.place self.old.state.learnt own.now
+              state = (draw_epoch self.old.place self.old.state.learnt own.now
                   members.now).primary;
             }) }
         ensures led { IfOk result (λ led. led ≡
-            (epoch_drawn self.old.place self.old.state.learnt own.now members.now).turned) }
+            (draw_epoch self.old.place self.old.state.learnt own.now members.now).turned) }
         ensures same { OnErr result (self.new ≡ self.old) }
     {
         let _turn = turn;
-        let drawn = epoch_drawn(
+        let drawn = draw_epoch(
             self.alloc,
             &self.place,
             self.state.learnt,

@@ -95,7 +95,7 @@ fn update_to_each(
 }
 
 /// The update to the node itself, and then to each current peer.
-fn issue_sent(
+fn send_issue(
     alloc: Global,
     place: &Place,
     peers: &[Peer],
@@ -110,7 +110,7 @@ fn issue_sent(
 }
 
 /// What is sent and marked when an update is issued.
-fn issue_told(
+fn report_issue(
     alloc: Global,
     place: &Place,
     peers: &[Peer],
@@ -130,7 +130,7 @@ fn issue_told(
         id: update.id,
     };
     let marked = shows(alloc, mark)?;
-    let sent = sends(alloc, issue_sent(alloc, place, peers, update)?);
+    let sent = sends(alloc, send_issue(alloc, place, peers, update)?);
     join(marked, sent)
 }
 
@@ -192,7 +192,7 @@ fn issues(
             turned: quiet(alloc),
         }),
         Some(update) => {
-            let turned = issue_told(alloc, place, tenure.peers.as_slice(), &update)?;
+            let turned = report_issue(alloc, place, tenure.peers.as_slice(), &update)?;
             Ok(Written {
                 issued: Some(update),
                 turned,

@@ -47,7 +47,7 @@ fn unacked(
 }
 
 /// What a peer is sent again once a head was chosen.
-fn sent_again(
+fn resend(
     alloc: Global,
     place: &Place,
     epoch: Epoch,
@@ -55,7 +55,7 @@ fn sent_again(
     peer: &Peer,
 ) -> Result<Option<Payload>, OutOfMemory>
     ensures { IfOk result (λ content. content ≡
-        rows.sent_again place.now epoch issued.now peer.now.node peer.now.state) }
+        rows.resend place.now epoch issued.now peer.now.node peer.now.state) }
 {
     match &peer.state {
         PeerState::Unknown => Ok(Some(Payload::Gather {
@@ -99,12 +99,12 @@ fn again_to_each(
     ensures { IfOk result (λ turned. turned ≡
         sends
         (flat_map (λ p.
-        if_any place.now.node p.node (rows.sent_again place.now epoch issued.now p.node p.state))
+        if_any place.now.node p.node (rows.resend place.now epoch issued.now p.node p.state))
         peers.now)) }
 {
     let mut outs = Seq::new(alloc);
     for peer in peers {
-        let content = sent_again(alloc, place, epoch, issued, peer)?;
+        let content = resend(alloc, place, epoch, issued, peer)?;
         send_any(&mut outs, place.node, peer.node, content)?;
     }
     Ok(sends(alloc, outs))

@@ -19,7 +19,7 @@ use Rattle.xt_protocol.specs.Stamps.{is_version, has_version, with_held}
 use Rattle.xt_protocol.proofs.Stamps.{version-equal}
 use Rattle.xt_protocol.specs.Choice.{chosen_of, difference}
 use Rattle.xt_protocol.specs.Primaries.{Led, Ground, peer_in, with_peer, unknown_peer, nodes_of, reported, reports_of, majority_among, statuses_counted, target_of, last_sent, if_any, last_to_each, known_of_own}
-use Rattle.xt_protocol.specs.PrimaryRows.{goes_on, unmoved, epoch_above, epoch_drawn, peers_fed, installs, fetches, chooses, status_counted, body_beyond, after_keeping, body_fetched}
+use Rattle.xt_protocol.specs.PrimaryRows.{goes_on, unmoved, epoch_above, draw_epoch, feed_peers, installs, fetches, chooses, status_counted, body_beyond, after_keeping, take_body}
 use Rattle.xt_protocol.specs.ReplicaRows.{kept_after}
 use Rattle.xt_protocol.specs.Turns.{quiet, message, to_each}
 use Rattle.xt_protocol.specs.declared.states.Peer.{Peer}
@@ -193,8 +193,8 @@ module _ (stripe : ℕ) (ops : ℕ × ℕ → Op) (members : List ℕ) (n : ℕ)
 
   pub draws : (z : Seen) (learnt : ℕ) (ms : List NodeId) → z.holder ≡ Some n → NamesHeld z.kept.held z.kept.head.versions
       → map (λ (k : NodeId). k.0) ms ≡ members
-      → LeadsTo z (epoch_drawn (ground_at stripe n z).place learnt z.kept.head ms)
-  unfolding epoch_drawn
+      → LeadsTo z (draw_epoch (ground_at stripe n z).place learnt z.kept.head ms)
+  unfolding draw_epoch
   draws z learnt ms held names are =
       by_test (λ b. LeadsTo z (cond b (goes_on learnt (tenure_of e (map unknown_peer ms) progress.Gathering)
       (record { rec = Some (kept.Promise z.kept.file e); outs = to_each (record { 0 = n }) ms (payload.Gather z.kept.file e); marks = [] }))
@@ -207,7 +207,7 @@ module _ (stripe : ℕ) (ops : ℕ × ℕ → Op) (members : List ℕ) (n : ℕ)
       e : Epoch
       e = epoch_above (ground_at stripe n z).place learnt z.kept.head
 
-  pub draws_anew : (z : Seen) (t : Tenure) (learnt : ℕ) → Fit (seen_in z t) → LeadsTo (seen_in z t) (epoch_drawn (ground_at stripe n z).place learnt z.kept.head (nodes_of t.peers))
+  pub draws_anew : (z : Seen) (t : Tenure) (learnt : ℕ) → Fit (seen_in z t) → LeadsTo (seen_in z t) (draw_epoch (ground_at stripe n z).place learnt z.kept.head (nodes_of t.peers))
   draws_anew z t learnt fits = draws (seen_in z t) learnt (nodes_of t.peers) fits.tenure.0 fits.names (nodes_again t.peers ∙ fits.tenure.1.peers)
 
   -- ---- a chosen head
@@ -255,7 +255,7 @@ module _ (stripe : ℕ) (ops : ℕ × ℕ → Op) (members : List ℕ) (n : ℕ)
       target = target_of z.kept.head e chosen
 
       t : Tenure
-      t = tenure_of e (peers_fed (ground_at stripe n z) target peers) (progress.Installing chosen [])
+      t = tenure_of e (feed_peers (ground_at stripe n z) target peers) (progress.Installing chosen [])
 
       there : Seen
       there = seen_in z t
@@ -264,9 +264,9 @@ module _ (stripe : ℕ) (ops : ℕ × ℕ → Op) (members : List ℕ) (n : ℕ)
       none_fit = omega arith
 
       is : IsTarget stripe ops members n there e target
-      is = target_chosen stripe ops members n z e (peers_fed (ground_at stripe n z) target peers) chosen [] b.names held
+      is = target_chosen stripe ops members n z e (feed_peers (ground_at stripe n z) target peers) chosen [] b.names held
 
-      outs : (m : Msg) → Has m (message (record { 0 = n }) (record { 0 = n }) (payload.Head z.kept.file e target) ∷ last_to_each (ground_at stripe n z).place e (peers_fed (ground_at stripe n z) target peers))
+      outs : (m : Msg) → Has m (message (record { 0 = n }) (record { 0 = n }) (payload.Head z.kept.file e target) ∷ last_to_each (ground_at stripe n z).place e (feed_peers (ground_at stripe n z) target peers))
           → (x : Message) → Has x (shown n m.payload) → Ready there x
       outs m (inl q) x k = own (subst (λ (y : Msg). Has x (shown n y.payload)) q k)
         where
@@ -274,7 +274,7 @@ module _ (stripe : ℕ) (ops : ℕ × ℕ → Op) (members : List ℕ) (n : ℕ)
           own (inl g) = inl (subst (Sendable stripe ops members n there) (sym g) is.sent)
           own (inr g) = absurd g
       outs m (inr h) x k =
-          let r = flat_has (λ (q : Peer). if_any (record { 0 = n }) q.node (last_sent z.kept.file e q.state)) (peers_fed (ground_at stripe n z) target peers) m h in
+          let r = flat_has (λ (q : Peer). if_any (record { 0 = n }) q.node (last_sent z.kept.file e q.state)) (feed_peers (ground_at stripe n z) target peers) m h in
           all_fed stripe ops members n there e target peers is b.sent r.0 r.1 x (if_any_shown n (record { 0 = n }) r.0.node (last_sent z.kept.file e r.0.state) m x r.2 k)
 
   -- the next body is fetched, or the head is installed
@@ -458,7 +458,7 @@ module _ (stripe : ℕ) (ops : ℕ × ℕ → Op) (members : List ℕ) (n : ℕ)
   pub body_comes : (z : Seen) (e : Epoch) (peers : List Peer) (chosen : FileHead) (source : NodeId) (asked : ObjectVersion) (later : List ObjectVersion) (object : ℕ) (version : Stamp) (bytes : List ℕ) (learnt : ℕ)
       → Fit (seen_in z (tenure_of e peers (progress.Fetching chosen source asked later))) → is_version asked (body_of object version) ≡ true → Has (Piece object version bytes) z.sent
       → LeadsTo (seen_in z (tenure_of e peers (progress.Fetching chosen source asked later)))
-      (body_fetched (ground_at stripe n z) learnt (tenure_of e peers (progress.Fetching chosen source asked later)) chosen source later object version bytes)
+      (take_body (ground_at stripe n z) learnt (tenure_of e peers (progress.Fetching chosen source asked later)) chosen source later object version bytes)
   body_comes z e peers chosen source asked later object version bytes learnt fits same has =
       by_test (λ b. has_version z.kept.held (body_of object version) ≡ b → LeadsTo a (let rec = cond b None (Some (kept.Stage z.kept.file object version bytes)) in
       after_keeping rec (fetches (record (ground_at stripe n z) { body = body_beyond z.kept.file rec z.body }) learnt (tenure_of e peers p) chosen source later))) (has_version z.kept.held (body_of object version))

@@ -13,7 +13,7 @@ use Rattle.xt_messages.specs.declared.message.Msg.{Msg}
 use Rattle.xt_messages.specs.declared.message.Payload.{Payload}
 use Rattle.xt_protocol.specs.Stamps.{is_epoch, has_version}
 use Rattle.xt_protocol.specs.Primaries.{with_peer, known_of_report, fed_next, fed, last_sent, if_any, target_of}
-use Rattle.xt_protocol.specs.PrimaryRows.{target_in, peer_fed, peers_fed}
+use Rattle.xt_protocol.specs.PrimaryRows.{target_in, feed_peer, feed_peers}
 use Rattle.xt_protocol.specs.declared.states.IssuedUpdate.{IssuedUpdate}
 use Rattle.xt_protocol.specs.declared.states.Peer.{Peer}
 use Rattle.xt_protocol.specs.declared.states.PeerState.{PeerState}
@@ -150,16 +150,16 @@ module _ (stripe : ℕ) (ops : ℕ × ℕ → Op) (members : List ℕ) (n : ℕ)
       at (inr same) = ready x (subst (λ s. Has x (shown_if n (last_sent file e s))) same k)
 
   -- all that have reported are fed
-  pub fed_nodes : (z : Seen) (target : FileHead) (peers : List Peer) → nodes_in (peers_fed (ground_at stripe n z) target peers) ≡ nodes_in peers
+  pub fed_nodes : (z : Seen) (target : FileHead) (peers : List Peer) → nodes_in (feed_peers (ground_at stripe n z) target peers) ≡ nodes_in peers
   fed_nodes z target [] = refl
   fed_nodes z target (p ∷ ps) = ap (λ ns. p.node.0 ∷ ns) (fed_nodes z target ps)
 
   pub all_fed : (a : Seen) (e : Epoch) (target : FileHead) (peers : List Peer) → IsTarget a e target → PeersSent n a.kept.file e peers a.sent
-      → (p : Peer) → Has p (peers_fed (ground_at stripe n a) target peers) → (x : Message) → Has x (shown_if n (last_sent a.kept.file e p.state)) → IsReady stripe ops members n a x
-  all_fed a e target peers is sent p h x k = at (map_has (λ (q : Peer). record { node = q.node; state = peer_fed (ground_at stripe n a) target q.node q.state }) peers p h)
+      → (p : Peer) → Has p (feed_peers (ground_at stripe n a) target peers) → (x : Message) → Has x (shown_if n (last_sent a.kept.file e p.state)) → IsReady stripe ops members n a x
+  all_fed a e target peers is sent p h x k = at (map_has (λ (q : Peer). record { node = q.node; state = feed_peer (ground_at stripe n a) target q.node q.state }) peers p h)
     where
       new : (q : NodeId) (s : PeerState) → (Has x (shown_if n (last_sent a.kept.file e s)) → IsReady stripe ops members n a x)
-          → Has x (shown_if n (last_sent a.kept.file e (peer_fed (ground_at stripe n a) target q s))) → IsReady stripe ops members n a x
+          → Has x (shown_if n (last_sent a.kept.file e (feed_peer (ground_at stripe n a) target q s))) → IsReady stripe ops members n a x
       new q (peer.Reported head) old =
           by_test (λ b. Has x (shown_if n (last_sent a.kept.file e (cond b (peer.Reported head) (fed a.body target (known_of_report head))))) → IsReady stripe ops members n a x) (q.0 == n)
           (λ _ g. absurd g) (λ _ g. fed_ready a a.kept.file e target (known_of_report head) is x g)
@@ -168,5 +168,5 @@ module _ (stripe : ℕ) (ops : ℕ × ℕ → Op) (members : List ℕ) (n : ℕ)
       new q (peer.Heading known head) old = old
       new q peer.Current old = old
 
-      at : (q : Peer) × Has q peers × (p ≡ record { node = q.node; state = peer_fed (ground_at stripe n a) target q.node q.state }) → IsReady stripe ops members n a x
+      at : (q : Peer) × Has q peers × (p ≡ record { node = q.node; state = feed_peer (ground_at stripe n a) target q.node q.state }) → IsReady stripe ops members n a x
       at r = new r.0.node r.0.state (sent_ready a a.kept.file e peers sent r.0 r.1 x) (subst (λ (z : Peer). Has x (shown_if n (last_sent a.kept.file e z.state))) r.2 k)

@@ -21,17 +21,17 @@ use Rattle.xt_messages.specs.declared.reply.Reply.{Reply}
 use Rattle.xt_messages.specs.declared.reply.Reply.TheVariants as reply
 use Rattle.xt_protocol.specs.declared.turned.Turned.{Turned}
 use Rattle.xt_protocol.specs.Register.{Round, same_ballot, lease_of, on_promise, ReadAnswer, promise, read_refused, WriteAnswer, Write, accepted, write_refused, other_boot, on_read, on_write}
-use Rattle.xt_protocol.specs.LeaseRows.{LeaseState, Proposer, Held, free, asking, writing, held, LeaseNews, LeaseStep, Asked, asked_still, asked_write, asked_found, asking_promised, Written, written_still, written_won, written_late, writing_accepted, Renewal, no_news, renewal_write, renewed, on_renewal, step_of_asking, step_of_written, news_of_targets, news_of_renewal, asking_answered, writing_answered, sends_write, holds, finds, ends, on_answer, can_ask, round_starts, renewal_starts, is_renewal_due, has_run_out, has_turn, round_over, renewal_left, lease_expired}
+use Rattle.xt_protocol.specs.LeaseRows.{LeaseState, Proposer, Held, free, asking, writing, held, LeaseNews, LeaseStep, Asked, asked_still, asked_write, asked_found, asking_promised, Written, written_still, written_won, written_late, writing_accepted, Renewal, no_news, renewal_write, renewed, on_renewal, step_of_asking, step_of_written, news_of_targets, news_of_renewal, answer_asking, answer_writing, sends_write, holds, finds, ends, on_answer, can_ask, round_starts, renewal_starts, is_renewal_due, has_run_out, has_turn, round_over, renewal_left, lease_expired}
 use Rattle.xt_protocol.specs.LeaseRows as lease
 use Rattle.osd_invariants.specs.Sound.{ListUnder, IsHeld}
-use Rattle.xt_protocol.specs.AskRows.{ask_waits, ask_served, reads_of, round_for, elsewhere, ask_without_lease, ask_under, ask_rows, view_record, ask_let_in, refusal_of, ask_handled, waiting_ask}
+use Rattle.xt_protocol.specs.AskRows.{ask_waits, serve_ask, reads_of, round_for, elsewhere, ask_without_lease, ask_under, ask_rows, view_record, ask_let_in, refusal_of, handle_ask, waiting_ask}
 use Rattle.xt_protocol.specs.Asks.{Served, waits, asks_follow, asked_already, serves, tells_each, tells_untold}
-use Rattle.xt_protocol.specs.FileLeases.{answer_to_read, read_comes, answers_to_write, end_after_write, write_comes, end_after_answer, writes_to, waiting_told, live_lease, led_on, lease_held, lease_news, answer_comes}
+use Rattle.xt_protocol.specs.FileLeases.{answer_to_read, read_comes, answers_to_write, end_after_write, write_comes, end_after_answer, writes_to, answer_waiting, live_lease, led_on, lease_held, lease_news, answer_comes}
 use Rattle.xt_protocol.specs.FileStates.{FileState, Site, FileStep, nothing, steps_to, and_then, members_of, stripe_of, ground_of}
 use Rattle.xt_protocol.specs.FileSteps.{replica_acts, ask_comes, primary_hears, message_comes, step_of_file, renews, wakes_under_lease, wake_of_file}
 use Rattle.xt_protocol.specs.Overdue.{no_lease_for_all, deadlines_under, lease_became, expired, is_due, newly_due}
 use Rattle.xt_protocol.specs.Primaries.{Ground, Led, is_active, have_in, majority_among, idle, if_any}
-use Rattle.xt_protocol.specs.PrimaryRows.{epoch_drawn, hears}
+use Rattle.xt_protocol.specs.PrimaryRows.{draw_epoch, hears}
 use Rattle.xt_protocol.specs.ReplicaRows.{kept_after, gathered, staged, headed, updated}
 use Rattle.xt_protocol.specs.Serving.{wakes}
 use Rattle.xt_protocol.specs.Turns.{quiet, shows, sends, joined, the_record, message, reply_to, tells}
@@ -88,12 +88,12 @@ renewal_held h (Some r) no_news = tt
 renewal_held h (Some r) (renewal_write targets) = tt
 renewal_held h (Some r) (renewed end) = tt
 
-asking_held : (r : Round) (now : ℕ) (from : NodeId) (content : Payload) → AnswerHeld (asking_answered r now from content)
+asking_held : (r : Round) (now : ℕ) (from : NodeId) (content : Payload) → AnswerHeld (answer_asking r now from content)
 asking_held r now from (payload.Promise file ballot boot report) = either_held (same_ballot ballot r.ballot) _ _ (asked_held r.ballot (lease_of r) (asking_promised r now from boot report)) tt
 asking_held r now from (payload.Outrun file ballot seen) = either_held (same_ballot ballot r.ballot) _ _ tt tt
 asking_held r now from _ = tt
 
-writing_held : (r : Round) (now : ℕ) (from : NodeId) (content : Payload) → AnswerHeld (writing_answered r now from content)
+writing_held : (r : Round) (now : ℕ) (from : NodeId) (content : Payload) → AnswerHeld (answer_writing r now from content)
 writing_held r now from (payload.Promise file ballot boot report) =
     either_held (same_ballot ballot r.ballot) _ _ (targets_held (writing (on_promise r now from boot report).round) r.ballot (lease_of r) (lease.targets_of (on_promise r now from boot report).took)) tt
 writing_held r now from (payload.Accepted file ballot boot) = either_held (same_ballot ballot r.ballot) _ _ (written_held (writing_accepted r now from boot)) tt
@@ -245,7 +245,7 @@ module _ (stripe : ℕ) (ops : ℕ × ℕ → Op) (members : List ℕ) (site : S
     abbrev There : FileState → Seen
     There s = At s holder sent entries
 
-    served_step : (s : FileState) (ask : WaitingAsk) → ListFits stripe members s.kept.location → (s.kept.location ≡ None → ⊥) → Fits members n (There s) → AskFits stripe ops ask → QuietStep (There s) (ask_served site s ask)
+    served_step : (s : FileState) (ask : WaitingAsk) → ListFits stripe members s.kept.location → (s.kept.location ≡ None → ⊥) → Fits members n (There s) → AskFits stripe ops ask → QuietStep (There s) (serve_ask site s ask)
     served_step s ask list some fits of =
         let q : Quietly stripe ops members n (There s) (serves (ground_of site s) first ask (waits s.asks ask)).primary.tenure (serves (ground_of site s) first ask (waits s.asks ask)).turned =
         subst (λ g. Quietly stripe ops members n (There s) (serves g first ask (waits s.asks ask)).primary.tenure (serves g first ask (waits s.asks ask)).turned)
@@ -282,7 +282,7 @@ module _ (stripe : ℕ) (ops : ℕ × ℕ → Op) (members : List ℕ) (site : S
     under_step : (s : FileState) (l : LeaseState) (ask : WaitingAsk) → ListFits stripe members s.kept.location → ListUnder l s.kept.location → Fits members n (There s) → AskFits stripe ops ask
         → QuietStep (There s) (ask_under site s l ask)
     under_step s (held h) ask list under fits of =
-        by_test (λ b. QuietStep (There s) (cond b (ask_served site s ask) (ask_waits s ask))) (is_active s.primary.tenure)
+        by_test (λ b. QuietStep (There s) (cond b (serve_ask site s ask) (ask_waits s ask))) (is_active s.primary.tenure)
         (λ _. served_step s ask list (stored s.kept.location under) fits of) (λ _. waits_step s ask fits)
       where
         stored : (location : Option Location) → ListUnder (held h) location → location ≡ None → ⊥
@@ -388,14 +388,14 @@ module _ (stripe : ℕ) (ops : ℕ × ℕ → Op) (members : List ℕ) (site : S
         unsaid (write_refused seen) = mute_one from (payload.Outrun s.kept.file ballot seen) refl
         unsaid other_boot = λ m h. absurd h
 
-    told_step : (s t : FileState) (answer : Reply) → t.kept ≡ s.kept → t.primary ≡ s.primary → Fits members n (There s) → Steps (There s) (waiting_told site t answer)
+    told_step : (s t : FileState) (answer : Reply) → t.kept ≡ s.kept → t.primary ≡ s.primary → Fits members n (There s) → Steps (There s) (answer_waiting site t answer)
     told_step s t answer kept primary fits =
         still_step s (record t { asks = record t.asks { waiting = [] } }) (sends (tells_each site.node t.kept.file t.asks.waiting answer)) holder sent entries kept primary
         (mute_sends _ (mute_each t.kept.file t.asks.waiting answer)) fits
 
     live_step : (s t : FileState) (l : Lease) → t.kept ≡ s.kept → t.primary ≡ s.primary → Fits members n (There s) → Steps (There s) (live_lease site t l)
     live_step s t l kept primary fits =
-        by_test (λ b. Steps (There s) (cond b (waiting_told site t (reply.NoLease t.last_end)) (waiting_told site t (reply.Elsewhere l.node l.end)))) (l.node.0 == site.node.0)
+        by_test (λ b. Steps (There s) (cond b (answer_waiting site t (reply.NoLease t.last_end)) (answer_waiting site t (reply.Elsewhere l.node l.end)))) (l.node.0 == site.node.0)
         (λ _. told_step s t (reply.NoLease t.last_end) kept primary fits) (λ _. told_step s t (reply.Elsewhere l.node l.end) kept primary fits)
 
     -- an idle primary draws its epoch
@@ -408,7 +408,7 @@ module _ (stripe : ℕ) (ops : ℕ × ℕ → Op) (members : List ℕ) (site : S
     led_step s None is list some alone fits = record {
       reach = gains_first stripe ops members n (There s) led.primary.tenure led.turned (nobody_holds holder alone (subst (TenureFits members n (There s)) is fits.tenure))
           (reaches stripe ops members n z led.primary.tenure led.turned
-          (subst (λ g. Leads stripe ops members n z (epoch_drawn g.place s.primary.learnt s.kept.head (members_of s.kept.location)).primary.tenure (epoch_drawn g.place s.primary.learnt s.kept.head (members_of s.kept.location)).turned)
+          (subst (λ g. Leads stripe ops members n z (draw_epoch g.place s.primary.learnt s.kept.head (members_of s.kept.location)).primary.tenure (draw_epoch g.place s.primary.learnt s.kept.head (members_of s.kept.location)).turned)
           (ground_is s holder sent entries (stripe_is s.kept.location list some))
           (draws stripe ops members n z s.primary.learnt (members_of s.kept.location) refl fits.names (members_are s.kept.location list some))));
       kept = refl;
@@ -418,7 +418,7 @@ module _ (stripe : ℕ) (ops : ℕ × ℕ → Op) (members : List ℕ) (site : S
         z = record (There s) { holder = Some n }
 
         led : Led
-        led = epoch_drawn (ground_of site s).place s.primary.learnt s.kept.head (members_of s.kept.location)
+        led = draw_epoch (ground_of site s).place s.primary.learnt s.kept.head (members_of s.kept.location)
 
     held_step : (t : FileState) (end : ℕ) → ListFits stripe members t.kept.location → (t.kept.location ≡ None → ⊥) → IsFree n holder → Fits members n (There t) → Steps (There t) (lease_held site t end)
     held_step t end list some alone fits =
@@ -506,7 +506,7 @@ module _ (stripe : ℕ) (ops : ℕ × ℕ → Op) (members : List ℕ) (site : S
 
       ask_step : (s : FileState) (k : Kind) (id : OpId) (capability : Capability) (asked : Op) → k ≡ kind.Replicated → IsOrderly stripe ops members s → IsList stripe members capability.location → Fits members n (There s)
           → ((deadline : ℕ) → AskFits stripe ops (record { id = id; epoch = capability.epoch; op = asked; deadline = deadline })) → Steps (There s) (ask_comes site s k id capability asked)
-      unfolding ask_handled
+      unfolding handle_ask
       ask_step s kind.Replicated id capability asked replicated orderly own fits of = let_in_step s id capability asked orderly own fits of (refusal_of site s.kept.location capability asked)
       ask_step s kind.Striped id capability asked replicated orderly own fits of = absurd cc
 

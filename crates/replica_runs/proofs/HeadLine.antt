@@ -74,17 +74,17 @@ name_has [] w h = absurd h
 name_has (v ∷ ws) w (inl p) = inl (ap name p)
 name_has (v ∷ ws) w (inr h) = inr (name_has ws w h)
 
-issue_told : (ms : List Mark) (place : ℕ) (w : Update) → Has (Issued place w) (acts_of ms) → IsIssued (map entry_of ms) (name w)
-issue_told [] place w h = absurd h
-issue_told (Told n a ∷ ms) place w (inl p) = (n, place, inl (ap (λ (b : Act). entry_of (Told n b)) p))
-issue_told (Told n a ∷ ms) place w (inr h) = let more = issue_told ms place w h in (more.0, more.1, inr more.2)
-issue_told (ShowsRead n ws o body ∷ ms) place w h = let more = issue_told ms place w h in (more.0, more.1, inr more.2)
-issue_told (ShowsWrite n at id ∷ ms) place w h = let more = issue_told ms place w h in (more.0, more.1, inr more.2)
+report_issue : (ms : List Mark) (place : ℕ) (w : Update) → Has (Issued place w) (acts_of ms) → IsIssued (map entry_of ms) (name w)
+report_issue [] place w h = absurd h
+report_issue (Told n a ∷ ms) place w (inl p) = (n, place, inl (ap (λ (b : Act). entry_of (Told n b)) p))
+report_issue (Told n a ∷ ms) place w (inr h) = let more = report_issue ms place w h in (more.0, more.1, inr more.2)
+report_issue (ShowsRead n ws o body ∷ ms) place w h = let more = report_issue ms place w h in (more.0, more.1, inr more.2)
+report_issue (ShowsWrite n at id ∷ ms) place w h = let more = report_issue ms place w h in (more.0, more.1, inr more.2)
 
 module _ (start : Start) where
   was_issued : (ms : List Mark) (id : ℕ × ℕ) (w : Update) → id ≡ name w → WasIssued start (acts_of ms) w → Has id (known_at start) ⊎ IsIssued (map entry_of ms) id
   was_issued ms id w is (inl h) = inl (subst (λ k. Has k (known_at start)) (sym is) (name_has (start.line ++ start.open_writes) w h))
-  was_issued ms id w is (inr h) = inr (subst (IsIssued (map entry_of ms)) (sym is) (issue_told ms h.0 w h.1))
+  was_issued ms id w is (inr h) = inr (subst (IsIssued (map entry_of ms)) (sym is) (report_issue ms h.0 w h.1))
 
   order_issued : (ms : List Mark) → lines.IssuesComeFirst start (acts_of ms) → (id : ℕ × ℕ) → Has id (order_of (order_at start) (map entry_of ms))
       → Has id (known_at start) ⊎ IsIssued (map entry_of ms) id

@@ -16,7 +16,7 @@ use Rattle.xt_messages.specs.declared.message.Payload.TheVariants as payload
 use Rattle.xt_protocol.specs.Folds.{body_of}
 use Rattle.xt_protocol.specs.Stamps.{is_epoch, is_earlier, is_below, is_version, without_version, with_held}
 use Rattle.xt_protocol.specs.Primaries.{Led, peer_in, with_peer, reported, nodes_of, majority_among, with_node, carries, known_of_report, fed, last_sent, if_any, target_of}
-use Rattle.xt_protocol.specs.PrimaryRows.{goes_on, unmoved, with_state, feeds, status_told, hears_status, hears_object, body_fetched, target_in, body_staged, body_missed, epoch_drawn, hears_missing, makes_current, activated, committed, update_acked, acked_below, hears_ack, forgotten, peer_behind, outpromised, epoch_told, hears_peer, hears_member, hears_epoch, hears}
+use Rattle.xt_protocol.specs.PrimaryRows.{goes_on, unmoved, with_state, feeds, take_status, hears_status, hears_object, take_body, target_in, body_staged, body_missed, draw_epoch, hears_missing, makes_current, activated, committed, ack_update, acked_below, hears_ack, forgotten, peer_behind, outpromised, message_epoch, hears_peer, hears_member, hears_epoch, hears}
 use Rattle.xt_protocol.specs.Turns.{sends, answers, message}
 use Rattle.xt_protocol.specs.declared.states.IssuedUpdate.{IssuedUpdate}
 use Rattle.xt_protocol.specs.declared.states.Peer.{Peer}
@@ -159,7 +159,7 @@ module _ (stripe : ℕ) (ops : ℕ × ℕ → Op) (members : List ℕ) (n : ℕ)
   missing_comes : (z : Seen) (e : Epoch) (peers : List Peer) (p : Progress) (q : NodeId) (state : PeerState) (v : ObjectVersion) (learnt : ℕ) → IsFit (seen_in z (tenure_of e peers p)) → peer_in peers q ≡ Some state
       → Leading (seen_in z (tenure_of e peers p)) (hears_missing (ground_at stripe n z) learnt (tenure_of e peers p) p q state v)
   missing_comes z e peers (progress.Fetching chosen source asked later) q state v learnt fits there =
-      by_test (λ b. Leading (seen_in z t) (cond b (epoch_drawn (ground_at stripe n z).place learnt z.kept.head (nodes_of peers)) (unmoved learnt t))) (q.0 == source.0)
+      by_test (λ b. Leading (seen_in z t) (cond b (draw_epoch (ground_at stripe n z).place learnt z.kept.head (nodes_of peers)) (unmoved learnt t))) (q.0 == source.0)
       (λ _. draws_anew stripe ops members n z t learnt fits) (λ _. still stripe ops members n z t learnt fits)
     where
       t : Tenure
@@ -175,7 +175,7 @@ module _ (stripe : ℕ) (ops : ℕ × ℕ → Op) (members : List ℕ) (n : ℕ)
       → Has (Piece object version bytes) z.sent → Leading (seen_in z (tenure_of e peers p)) (hears_object (ground_at stripe n z) learnt (tenure_of e peers p) p q object version bytes)
   object_comes z e peers (progress.Fetching chosen source asked later) q object version bytes learnt fits has =
       by_test (λ b. (q.0 == source.0 && is_version asked (body_of object version)) ≡ b
-      → Leading (seen_in z t) (cond b (body_fetched (ground_at stripe n z) learnt t chosen source later object version bytes) (unmoved learnt t))) (q.0 == source.0 && is_version asked (body_of object version))
+      → Leading (seen_in z t) (cond b (take_body (ground_at stripe n z) learnt t chosen source later object version bytes) (unmoved learnt t))) (q.0 == source.0 && is_version asked (body_of object version))
       (λ _ is. body_comes stripe ops members n z e peers chosen source asked later object version bytes learnt fits (both_true (q.0 == source.0) (is_version asked (body_of object version)) is).1 has)
       (λ _ _. still stripe ops members n z t learnt fits) refl
     where
@@ -253,7 +253,7 @@ module _ (stripe : ℕ) (ops : ℕ × ℕ → Op) (members : List ℕ) (n : ℕ)
           → Leads stripe ops members n (seen_in z (tenure_of e peers (progress.Active c o)))
           (acked_below (ground_at stripe n z) learnt (tenure_of e peers1 (progress.Active c o)) c q stamp new (Some i)).primary.tenure
           (acked_below (ground_at stripe n z) learnt (tenure_of e peers1 (progress.Active c o)) c q stamp new (Some i)).turned) (sym is)
-          (λ fit. by_test (λ b. is_below stamp i.update.stamp ≡ b → Leading (seen_in z t1) (cond (not b) (update_acked (ground_at stripe n z) learnt t2 c i.update (with_node i.acked q))
+          (λ fit. by_test (λ b. is_below stamp i.update.stamp ≡ b → Leading (seen_in z t1) (cond (not b) (ack_update (ground_at stripe n z) learnt t2 c i.update (with_node i.acked q))
           (cond new (goes_on learnt t2 (sends (message Node q (payload.Update z.kept.file i.update) ∷ []))) (unmoved learnt t2)))) (is_below stamp i.update.stamp)
           (λ _ _. by_test (λ b. Leading (seen_in z t1) (cond b (goes_on learnt t2 (sends (message Node q (payload.Update z.kept.file i.update) ∷ []))) (unmoved learnt t2))) new
           (λ _. row z e peers (progress.Active c (Some i)) peers1 (progress.Active c (Some i)) (message Node q (payload.Update z.kept.file i.update) ∷ []) [] z.entries [] fit tt refl refl listed fit.tenure.1.progress update_goes (fed (seen_in z t2) refl))
@@ -349,7 +349,7 @@ module _ (stripe : ℕ) (ops : ℕ × ℕ → Op) (members : List ℕ) (n : ℕ)
 
   refused_comes : (z : Seen) (t : Tenure) (promised : Epoch) (learnt : ℕ) → IsFit (seen_in z t) → Leading (seen_in z t) (outpromised (ground_at stripe n z) learnt t promised)
   refused_comes z t promised learnt fits =
-      by_test (λ b. Leading (seen_in z t) (cond b (epoch_drawn (ground_at stripe n z).place (max learnt promised.number) z.kept.head (nodes_of t.peers)) (unmoved learnt t))) (is_earlier t.epoch promised)
+      by_test (λ b. Leading (seen_in z t) (cond b (draw_epoch (ground_at stripe n z).place (max learnt promised.number) z.kept.head (nodes_of t.peers)) (unmoved learnt t))) (is_earlier t.epoch promised)
       (λ _. draws_anew stripe ops members n z t (max learnt promised.number) fits) (λ _. still stripe ops members n z t learnt fits)
 
   -- ---- a message to a primary
@@ -357,7 +357,7 @@ module _ (stripe : ℕ) (ops : ℕ × ℕ → Op) (members : List ℕ) (n : ℕ)
   module _ (distinct : AreDistinct members) where
     -- a status of an unknown peer
     new_status : (z : Seen) (e : Epoch) (peers : List Peer) (p : Progress) (q : NodeId) (head : FileHead) (learnt : ℕ) → IsFit (seen_in z (tenure_of e peers p)) → peer_in peers q ≡ Some peer.Unknown
-        → Has (Status q.0 e head) z.sent → (q.0 ≡ n → NamesHeld z.kept.held head.versions) → Leading (seen_in z (tenure_of e peers p)) (status_told (ground_at stripe n z) learnt (tenure_of e peers p) p q head)
+        → Has (Status q.0 e head) z.sent → (q.0 ≡ n → NamesHeld z.kept.held head.versions) → Leading (seen_in z (tenure_of e peers p)) (take_status (ground_at stripe n z) learnt (tenure_of e peers p) p q head)
     new_status z e peers progress.Gathering q head learnt fits there has mine = status_comes stripe ops members n distinct z e peers q head learnt fits there has mine
     new_status z e peers (progress.Fetching chosen source asked later) q head learnt fits there has mine =
         changes_peer z e peers (progress.Fetching chosen source asked later) q peer.Unknown (peer.Reported head) [] fits there (λ gathers. absurd cc) (λ x h. absurd h) (λ m h. absurd h)
@@ -374,7 +374,7 @@ module _ (stripe : ℕ) (ops : ℕ × ℕ → Op) (members : List ℕ) (n : ℕ)
     status_heard z e peers p q peer.Current head learnt fits there has mine = still stripe ops members n z (tenure_of e peers p) learnt fits
 
     peer_heard : (z : Seen) (e : Epoch) (peers : List Peer) (p : Progress) (q : NodeId) (state : PeerState) (content : Payload) (d : Epoch) (learnt : ℕ) → IsFit (seen_in z (tenure_of e peers p)) → peer_in peers q ≡ Some state
-        → AreIn (shown q.0 content) z.sent → OwnFits n z.kept.held q content → epoch_told content ≡ Some d → d ≡ e → Leading (seen_in z (tenure_of e peers p)) (hears_peer (ground_at stripe n z) learnt (tenure_of e peers p) q state content)
+        → AreIn (shown q.0 content) z.sent → OwnFits n z.kept.held q content → message_epoch content ≡ Some d → d ≡ e → Leading (seen_in z (tenure_of e peers p)) (hears_peer (ground_at stripe n z) learnt (tenure_of e peers p) q state content)
     peer_heard z e peers p q state (payload.Status file k head) d learnt fits there came mine told same =
         status_heard z e peers p q state head learnt fits there (subst (λ (x : Epoch). Has (Status q.0 x head) z.sent) (some_is told ∙ same) came.0) mine
       where
@@ -394,12 +394,12 @@ module _ (stripe : ℕ) (ops : ℕ × ℕ → Op) (members : List ℕ) (n : ℕ)
     peer_heard z e peers p q state _ d learnt fits there came mine told same = absurd cc
 
     member_heard : (z : Seen) (e : Epoch) (peers : List Peer) (p : Progress) (q : NodeId) (o : Option PeerState) (content : Payload) (d : Epoch) (learnt : ℕ) → IsFit (seen_in z (tenure_of e peers p)) → peer_in peers q ≡ o
-        → AreIn (shown q.0 content) z.sent → OwnFits n z.kept.held q content → epoch_told content ≡ Some d → d ≡ e → Leading (seen_in z (tenure_of e peers p)) (hears_member (ground_at stripe n z) learnt (tenure_of e peers p) q o content)
+        → AreIn (shown q.0 content) z.sent → OwnFits n z.kept.held q content → message_epoch content ≡ Some d → d ≡ e → Leading (seen_in z (tenure_of e peers p)) (hears_member (ground_at stripe n z) learnt (tenure_of e peers p) q o content)
     member_heard z e peers p q None content d learnt fits there came mine told same = still stripe ops members n z (tenure_of e peers p) learnt fits
     member_heard z e peers p q (Some state) content d learnt fits there came mine told same = peer_heard z e peers p q state content d learnt fits there came mine told same
 
     epoch_heard : (z : Seen) (e : Epoch) (peers : List Peer) (p : Progress) (q : NodeId) (o : Option Epoch) (content : Payload) (learnt : ℕ) → IsFit (seen_in z (tenure_of e peers p)) → AreIn (shown q.0 content) z.sent
-        → OwnFits n z.kept.held q content → epoch_told content ≡ o → Leading (seen_in z (tenure_of e peers p)) (hears_epoch (ground_at stripe n z) learnt (tenure_of e peers p) q o content)
+        → OwnFits n z.kept.held q content → message_epoch content ≡ o → Leading (seen_in z (tenure_of e peers p)) (hears_epoch (ground_at stripe n z) learnt (tenure_of e peers p) q o content)
     epoch_heard z e peers p q None content learnt fits came mine told = still stripe ops members n z (tenure_of e peers p) learnt fits
     epoch_heard z e peers p q (Some d) content learnt fits came mine told =
         by_test (λ b. is_epoch d e ≡ b → Leading (seen_in z (tenure_of e peers p)) (cond b (hears_member (ground_at stripe n z) learnt (tenure_of e peers p) q (peer_in peers q) content) (unmoved learnt (tenure_of e peers p)))) (is_epoch d e)
@@ -409,4 +409,4 @@ module _ (stripe : ℕ) (ops : ℕ × ℕ → Op) (members : List ℕ) (n : ℕ)
     pub primary_hears : (z : Seen) (t : Tenure) (from : NodeId) (content : Payload) (learnt : ℕ) → IsFit (seen_in z t) → AreIn (shown from.0 content) z.sent → OwnFits n z.kept.held from content
         → Leading (seen_in z t) (hears (ground_at stripe n z) (record { learnt = learnt; tenure = Some t }) from content)
     unfolding hears
-    primary_hears z t from content learnt fits came mine = epoch_heard z t.epoch t.peers t.progress from (epoch_told content) content learnt fits came mine refl
+    primary_hears z t from content learnt fits came mine = epoch_heard z t.epoch t.peers t.progress from (message_epoch content) content learnt fits came mine refl

@@ -13,7 +13,7 @@ use Rattle.xt_messages.specs.declared.message.Payload.TheVariants as payload
 use Rattle.xt_protocol.specs.declared.turned.Turned.{Turned}
 use Rattle.xt_protocol.specs.Asks.{Served, no_asks, stays, is_read, read_answer, write_done, serves, serves_waiting, serves_all, asks_behind, asks_follow}
 use Rattle.xt_protocol.specs.Primaries.{Led, last_sent, if_any, is_ready}
-use Rattle.xt_protocol.specs.Serving.{reads, reads_under, writes, gather_unknown, unacked, sent_again, to_peers, wakes_in, wakes}
+use Rattle.xt_protocol.specs.Serving.{reads, reads_under, writes, gather_unknown, unacked, resend, to_peers, wakes_in, wakes}
 use Rattle.xt_protocol.specs.Turns.{quiet, the_record, joined, message}
 use Rattle.xt_protocol.specs.declared.states.Asks.{Asks}
 use Rattle.xt_protocol.specs.declared.states.IssuedUpdate.{IssuedUpdate}
@@ -172,7 +172,7 @@ module _ (stripe : ℕ) (ops : ℕ × ℕ → Op) (members : List ℕ) (n : ℕ)
   again_ready : (z : Seen) (e : Epoch) (peers : List Peer) (p : Progress) (issued : Option IssuedUpdate) (q : NodeId) (s : PeerState) (x : Message)
       → (Has x (shown_if n (last_sent z.kept.file e s)) → Ready stripe ops members n (seen_in z (tenure_of e peers p)) x)
       → (Has x (shown_if n (unacked z.kept.file q issued)) → Ready stripe ops members n (seen_in z (tenure_of e peers p)) x)
-      → Has x (shown_if n (sent_again (ground_at stripe n z).place e issued q s)) → Ready stripe ops members n (seen_in z (tenure_of e peers p)) x
+      → Has x (shown_if n (resend (ground_at stripe n z).place e issued q s)) → Ready stripe ops members n (seen_in z (tenure_of e peers p)) x
   again_ready z e peers p issued q peer.Unknown x last update h = gather_ready z e peers p x h
   again_ready z e peers p issued q peer.Current x last update h = update h
   again_ready z e peers p issued q (peer.Reported head) x last update h = last h
@@ -207,9 +207,9 @@ module _ (stripe : ℕ) (ops : ℕ × ℕ → Op) (members : List ℕ) (n : ℕ)
               → Ready stripe ops members n (seen_in z (tenure_of t.epoch t.peers (progress.Fetching chosen source asked later))) x
           unfetched m (inl same) x k = absurd (subst (λ (y : Msg). Has x (shown n y.payload)) same k)
           unfetched m (inr h) x k = absurd h
-      by_progress (progress.Installing chosen acked) fit = wakes_row z t.epoch t.peers (progress.Installing chosen acked) (sent_again (ground_at stripe n z).place t.epoch None) fit
+      by_progress (progress.Installing chosen acked) fit = wakes_row z t.epoch t.peers (progress.Installing chosen acked) (resend (ground_at stripe n z).place t.epoch None) fit
           (λ q h x k. again_ready z t.epoch t.peers (progress.Installing chosen acked) None q.node q.state x
           (sent_ready stripe ops members n (seen_in z (tenure_of t.epoch t.peers (progress.Installing chosen acked))) z.kept.file t.epoch t.peers fit.tenure.1.sent q h x) (λ g. absurd g) k)
-      by_progress (progress.Active c issued) fit = wakes_row z t.epoch t.peers (progress.Active c issued) (sent_again (ground_at stripe n z).place t.epoch issued) fit
+      by_progress (progress.Active c issued) fit = wakes_row z t.epoch t.peers (progress.Active c issued) (resend (ground_at stripe n z).place t.epoch issued) fit
           (λ q h x k. again_ready z t.epoch t.peers (progress.Active c issued) issued q.node q.state x
           (sent_ready stripe ops members n (seen_in z (tenure_of t.epoch t.peers (progress.Active c issued))) z.kept.file t.epoch t.peers fit.tenure.1.sent q h x) (update_ready z t.epoch t.peers c issued q.node x) k)

@@ -22,7 +22,7 @@ use Rattle.xt_protocol.specs.Heads.{plain_stamp, head_after, session_of}
 use Rattle.xt_protocol.specs.ReplicaRows.{head_fits}
 use Rattle.xt_protocol.specs.Writes.{WriteStanding, repeated, older, turned_away, fresh, is_old_epoch, too_far, room_for_client, reach, judged, by_session, standing, update_of}
 use Rattle.xt_protocol.specs.declared.states.PlainActed.{PlainActed}
-use Rattle.xt_protocol.specs.PlainRows.{PlainFile, nothing, only, owns, is_node, read_served, next_update, write_kept, write_stands, write_served, refused_or, plain_step}
+use Rattle.xt_protocol.specs.PlainRows.{PlainFile, nothing, only, owns, is_node, serve_read, next_update, write_kept, write_stands, serve_plain_write, refused_or, plain_step}
 use Rattle.striped_safety.specs.Members.{Member, plain_of, has_of, number_in, number_of}
 use Rattle.striped_safety.specs.StripedWorld.{Setting, Asked, width_of, stripe_of, node_at, id_of, Affects, NotOk}
 
@@ -203,7 +203,7 @@ module _ (s : Setting) (place : ℕ) (m : Member) (a : Asked) (members : are_mem
 
   -- a write or a truncation
   change_does : Affects (width_of s) place a.op → (OkSays s m a m.head.mark [] a.op ≡ ((m.head.mark ≡ m.head.mark) × (a.number ≡ number_of m s.client.0)))
-      → Does s place m a (write_served p m.body (id_of s a) a.epoch s.location a.op)
+      → Does s place m a (serve_plain_write p m.body (id_of s a) a.epoch s.location a.op)
   change_does owned says =
       go (standing (limit_of s) (stripe_of s) m.head (id_of s a) a.epoch a.op) (stands_is (limit_of s) (stripe_of s) m.head (id_of s a) a.epoch a.op some)
     where
@@ -230,18 +230,18 @@ does_op : (s : Setting) (place : ℕ) (m : Member) (number epoch : ℕ) (asked :
 unfolding plain_step
 does_op s place m number epoch (op.Read object at len) members here some =
     let a : Asked = record { number = number; epoch = epoch; op = op.Read object at len } in
-    unless_refused s place m a (has_node s.location.members (node_at s place).0) (not (owns s.location.members (node_at s place) object)) (only (read_served m.body m.head object at len))
+    unless_refused s place m a (has_node s.location.members (node_at s place).0) (not (owns s.location.members (node_at s place) object)) (only (serve_read m.body m.head object at len))
     (λ is. inl (refl, (refl, refl)))
 does_op s place m number epoch (op.Write object at bytes) members here some =
     let a : Asked = record { number = number; epoch = epoch; op = op.Write object at bytes } in
     unless_refused s place m a (has_node s.location.members (node_at s place).0) (not (owns s.location.members (node_at s place) object))
-    (write_served (plain_of s.file (node_at s place) m) m.body (id_of s a) epoch s.location (op.Write object at bytes))
+    (serve_plain_write (plain_of s.file (node_at s place) m) m.body (id_of s a) epoch s.location (op.Write object at bytes))
     (λ is. change_does s place m a members here some
     (owner_at s.location.members place object (slice_get s.location.members (object % width_of s)) (distinct_of s.location.members members) here refl (not_false (owns s.location.members (node_at s place) object) is)) refl)
 does_op s place m number epoch (op.Truncate size) members here some =
     let a : Asked = record { number = number; epoch = epoch; op = op.Truncate size } in
     unless_refused s place m a (has_node s.location.members (node_at s place).0) false
-    (write_served (plain_of s.file (node_at s place) m) m.body (id_of s a) epoch s.location (op.Truncate size))
+    (serve_plain_write (plain_of s.file (node_at s place) m) m.body (id_of s a) epoch s.location (op.Truncate size))
     (λ is. change_does s place m a members here some tt refl)
 
 -- A member's step on an ask: nothing is kept, and an Ok is of the operation that it did last or of a read; or the update of a new one

@@ -12,7 +12,7 @@ use Rattle.xt_protocol.specs.FileStates.{Site}
 use Rattle.xt_protocol.specs.Folds.{body_of}
 use Rattle.xt_protocol.specs.Heads.{version_of}
 use Rattle.xt_protocol.specs.ReplicaRows.{kept_after}
-use Rattle.xt_protocol.specs.StripedRows.{striped_handled}
+use Rattle.xt_protocol.specs.StripedRows.{handle_striped}
 use Rattle.xt_protocol.specs.declared.states.Acted.{Acted}
 use Rattle.osd_invariants.proofs.StripedAsks.{striped_outcome}
 use Rattle.replica_safety.specs.Lists.{Has}
@@ -24,7 +24,7 @@ abbrev pub IsMembers : FileRow → Type 0
 IsMembers row = (row.location ≡ None) × NamesHeld row.held row.head.versions
 
 -- a member's step leaves it so
-pub member_stays : (site : Site) (row : FileRow) (id : OpId) (capability : Capability) (asked : Op) → (x : FileRow) → IsMembers x → IsMembers (kept_after x (striped_handled site row id capability asked).rec)
+pub member_stays : (site : Site) (row : FileRow) (id : OpId) (capability : Capability) (asked : Op) → (x : FileRow) → IsMembers x → IsMembers (kept_after x (handle_striped site row id capability asked).rec)
 member_stays site row id capability asked x =
     striped_outcome (λ (acted : Acted). IsMembers x → IsMembers (kept_after x acted.rec)) site row id capability asked
     (record { nothing = λ is. is; tells = λ answer is. is; keeps = λ update _ is. (is.0, update_names x update is.1) })

@@ -31,7 +31,7 @@ use Rattle.xt_protocol.specs.LeaseRows.{Silent}
 use Rattle.xt_protocol.specs.OsdSteps.{OsdState, OsdStep, file_concerned}
 use Rattle.xt_protocol.specs.Primaries.{if_any}
 use Rattle.xt_protocol.specs.ReplicaRows.{kept_after, only}
-use Rattle.xt_protocol.specs.StripedRows.{striped_handled, to_client, reply_payload}
+use Rattle.xt_protocol.specs.StripedRows.{handle_striped, to_client, reply_payload}
 use Rattle.xt_protocol.specs.declared.states.Acted.{Acted}
 use Rattle.xt_protocol.specs.declared.states.PlainActed.{PlainActed}
 use Rattle.file_runs.specs.FileRuns.{FileNode, keeping}
@@ -144,7 +144,7 @@ module _ (vol : List ℕ) (number : ℕ) (location : Location) (who : NodeId) (o
   comes msg has concerns = at msg.payload refl (is.quiet.asked msg has concerns) (fit.shape.payloads msg has)
     where
       asked_so : (k : ℕ) (capability : Capability) (asked : Op) → msg.payload ≡ payload.Ask k capability asked → PayloadFits (known w) (payload.Ask k capability asked) → Comes msg
-      asked_so k capability asked content declared = by_row (striped_handled site f.kept id capability asked) refl (handled_row site f.kept id capability asked)
+      asked_so k capability asked content declared = by_row (handle_striped site f.kept id capability asked) refl (handled_row site f.kept id capability asked)
         where
           site : Site
           site = site_at node r o
@@ -162,7 +162,7 @@ module _ (vol : List ℕ) (number : ℕ) (location : Location) (who : NodeId) (o
           its_list = (listed.known capability.file capability.location declared (ap (λ (g : FileId). g.number) its_file)).1
 
           acts_so : step_of_file (site_at node r o) (file_seen (id_in vol number) o) msg.from msg.payload
-              ≡ replica_acts (site_at node r o) (file_seen (id_in vol number) o) msg.from (striped_handled (site_at node r o) (file_seen (id_in vol number) o).kept (record { client = msg.from; number = k }) capability asked)
+              ≡ replica_acts (site_at node r o) (file_seen (id_in vol number) o) msg.from (handle_striped (site_at node r o) (file_seen (id_in vol number) o).kept (record { client = msg.from; number = k }) capability asked)
           acts_so =
               ap (step_of_file (site_at node r o) (file_seen (id_in vol number) o) msg.from) content
               ∙ ask_acts (site_at node r o) (file_seen (id_in vol number) o) msg.from k capability asked (ap (λ (l : Location). l.kind) its_list ∙ of_kind) is_plain
@@ -184,7 +184,7 @@ module _ (vol : List ℕ) (number : ℕ) (location : Location) (who : NodeId) (o
               (stranger_denies (record { file = (file_seen (id_in vol number) o).kept.file; node = (site_at node r o).node; head = (file_seen (id_in vol number) o).kept.head }) ((site_at node r o).body (file_seen (id_in vol number) o).kept.file)
               (record { client = msg.from; number = k }) capability.epoch capability.location asked (ap (λ (l : Location). has_node l.members (site_at node r o).node.0) its_list ∙ (ap (λ (n : NodeId). has_node location.members n.0) self ∙ none))))
 
-          by_row : (acted : Acted) → striped_handled (site_at node r o) (file_seen (id_in vol number) o).kept (record { client = msg.from; number = k }) capability asked ≡ acted
+          by_row : (acted : Acted) → handle_striped (site_at node r o) (file_seen (id_in vol number) o).kept (record { client = msg.from; number = k }) capability asked ≡ acted
               → IsRow (site_at node r o) (file_seen (id_in vol number) o).kept (record { client = msg.from; number = k }) capability asked acted → Comes msg
           by_row _ same (refuses answer not) = denied k answer not (acts_so ∙ ap (replica_acts (site_at node r o) (file_seen (id_in vol number) o) msg.from) same)
           by_row _ same (rows.acts inside) = by_place inside (acts_so ∙ ap (replica_acts (site_at node r o) (file_seen (id_in vol number) o) msg.from) same) (place_of_node location.members node.id.0)

@@ -21,7 +21,7 @@ use Rattle.xt_protocol.specs.Overdue.{expired, lease_became, deadlines_under}
 use Rattle.xt_protocol.specs.LeaseRows.{LeaseState, Proposer, free, asking, writing, held, lease_expired}
 use Rattle.xt_protocol.specs.PlainRows.{plain_step}
 use Rattle.xt_protocol.specs.ReplicaRows.{only}
-use Rattle.xt_protocol.specs.StripedRows.{range_and_list, unless_stored, capability_range_list, member_acts, to_client, striped_refusal, striped_handled}
+use Rattle.xt_protocol.specs.StripedRows.{range_and_list, unless_stored, capability_range_list, member_acts, to_client, striped_refusal, handle_striped}
 use Rattle.xt_protocol.specs.declared.states.Acted.{Acted}
 use Rattle.xt_protocol.specs.declared.states.PlainActed.{PlainActed}
 use Rattle.xt_protocol.specs.declared.states.Tenure.{Tenure}
@@ -77,7 +77,7 @@ reply_rests site s from number file answer is =
 
 -- an ask on a striped file goes by the rows of striped files
 pub ask_acts : (site : Site) (s : FileState) (from : NodeId) (number : ℕ) (capability : Capability) (asked : Op) → capability.location.kind ≡ kind.Striped → IsPlain s
-    → step_of_file site s from (payload.Ask number capability asked) ≡ replica_acts site s from (striped_handled site s.kept (record { client = from; number = number }) capability asked)
+    → step_of_file site s from (payload.Ask number capability asked) ≡ replica_acts site s from (handle_striped site s.kept (record { client = from; number = number }) capability asked)
 unfolding step_of_file
 ask_acts site s from number capability asked striped is =
     ap (λ (f : FileStep). and_then f (λ state. message_comes site state from (payload.Ask number capability asked))) (expired_plain site s is)
@@ -111,6 +111,6 @@ module _ (site : Site) (row : FileRow) (id : OpId) (capability : Capability) (as
   by_capability (Some why) = refuses (reply.Denied why) tt
   by_capability None = by_range (leaves_object capability.location.stripe asked) refl
 
-  pub handled_row : IsRow site row id capability asked (striped_handled site row id capability asked)
-  unfolding striped_handled striped_refusal
+  pub handled_row : IsRow site row id capability asked (handle_striped site row id capability asked)
+  unfolding handle_striped striped_refusal
   handled_row = by_capability (capability_refused site capability asked)

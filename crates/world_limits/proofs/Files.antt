@@ -50,12 +50,12 @@ use Rattle.xt_protocol.specs.Serving.{wakes}
 use Rattle.xt_protocol.specs.Asks.{Served, no_asks, waits, asked_already, tells_each, tells_untold}
 use Rattle.xt_protocol.specs.FileStates.{FileState, Site, FileStep, nothing, steps_to, and_then, serves_to, members_of, stripe_of, ground_of}
 use Rattle.xt_protocol.specs.Overdue.{is_due, issued_due, newly_due, deadlines_under, lease_became, expired}
-use Rattle.xt_protocol.specs.AskRows.{capability_refused, same_list, list_against, with_member, leaves_object, list_and_range, capability_list_range, refusal_of, waiting_ask, ask_waits, ask_served, round_for, elsewhere, ask_without_lease, ask_under, ask_rows, view_record, ask_let_in, ask_handled}
-use Rattle.xt_protocol.specs.FileLeases.{answer_to_read, read_comes, answers_to_write, end_after_write, write_comes, reported_end, end_after_answer, waiting_told, led_on, lease_news, answer_comes}
+use Rattle.xt_protocol.specs.AskRows.{capability_refused, same_list, list_against, with_member, leaves_object, list_and_range, capability_list_range, refusal_of, waiting_ask, ask_waits, serve_ask, round_for, elsewhere, ask_without_lease, ask_under, ask_rows, view_record, ask_let_in, handle_ask}
+use Rattle.xt_protocol.specs.FileLeases.{answer_to_read, read_comes, answers_to_write, end_after_write, write_comes, reported_end, end_after_answer, answer_waiting, led_on, lease_news, answer_comes}
 use Rattle.xt_protocol.specs.Heads.{first_epoch, plain_stamp, version_of}
 use Rattle.xt_protocol.specs.Objects.{present_body}
-use Rattle.xt_protocol.specs.PlainRows.{read_served}
-use Rattle.xt_protocol.specs.StripedRows.{striped_handled}
+use Rattle.xt_protocol.specs.PlainRows.{serve_read}
+use Rattle.xt_protocol.specs.StripedRows.{handle_striped}
 use Rattle.xt_protocol.specs.FileSteps.{replica_acts, ask_comes, primary_hears, message_comes, step_of_file, renews, wakes_under_lease, wake_of_file}
 use Rattle.osd_invariants.specs.Sound.{IsStored, ListUnder, IsSound}
 use Rattle.osd_invariants.proofs.Kept.{wake_keeps}
@@ -274,7 +274,7 @@ module _ (site : Site) (here : SiteIs site) where
   reported_is end (payload.Promise file ballot boot None) old fits = old
   reported_is end _ old fits = old
 
-  told_is : (s : FileState) (answer : Reply) → FileIs s → FitsReply answer → StepIs s.kept (waiting_told site s answer)
+  told_is : (s : FileState) (answer : Reply) → FileIs s → FitsReply answer → StepIs s.kept (answer_waiting site s answer)
   told_is s answer is fits =
       steps_is (record s { asks = record s.asks { waiting = [] } }) _ (with_asks s _ is (record { wait = tt; written = is.waits.written })) tt
       (each_told site.node s.kept.file s.asks.waiting answer here.who is.row.which is.waits.wait fits)
@@ -298,7 +298,7 @@ module _ (site : Site) (here : SiteIs site) where
       let over : FileIs (record s { last_end = end }) = record { row = is.row; register = is.register; leases = is.leases; clock = news; leads = is.leads; waits = is.waits } in
       then_is s.kept _ (λ state. led_on site state state.primary.tenure) (steps_is (record s { last_end = end }) (shows (mark.Held s.kept.file.number end)) over tt tt) (λ none. refl) (led_is (record s { last_end = end }) s.primary.tenure over)
   news_is s (finds l) is news =
-      either (StepIs s.kept) (l.node.0 == site.node.0) (waiting_told site s (reply.NoLease s.last_end)) (waiting_told site s (reply.Elsewhere l.node l.end))
+      either (StepIs s.kept) (l.node.0 == site.node.0) (answer_waiting site s (reply.NoLease s.last_end)) (answer_waiting site s (reply.Elsewhere l.node l.end))
       (told_is s (reply.NoLease s.last_end) is is.clock) (told_is s (reply.Elsewhere l.node l.end) is (news.holder, news.clock))
   news_is s ends is news = told_is s (reply.NoLease s.last_end) is is.clock
 
@@ -392,7 +392,7 @@ module _ (site : Site) (here : SiteIs site) where
 
   under_is : (s : FileState) (l : LeaseState) (ask : WaitingAsk) → FileIs s → LeaseIs l → IsStored s.kept.location → AskIs ask → StepIs s.kept (ask_under site s l ask)
   under_is s (held h) ask is own stored fits =
-      either (StepIs s.kept) (is_active s.primary.tenure) (ask_served site s ask) (ask_waits s ask)
+      either (StepIs s.kept) (is_active s.primary.tenure) (serve_ask site s ask) (ask_waits s ask)
       (served_is s _ is
       (serves_is (ground_of site s) (ground_is s is) (least_of s.kept.location stored is.row.place) (most_of s.kept.location is.row.place) (record { primary = s.primary; asks = s.asks; turned = quiet }) ask (waits s.asks ask)
       (record { primary = is.leads; asks = is.waits; next = tt; outs = tt }) fits (waits_are s.asks ask is.waits fits)))
@@ -437,13 +437,13 @@ module _ (site : Site) (here : SiteIs site) where
   acts_is s from acted is to fits = steps_is s _ is fits.next (any_sent site.node from acted.answer here.who to fits.answer)
 
   -- what an ask on a striped file gives
-  striped_is : (s : FileState) (id : OpId) (capability : Capability) (asked : Op) → FileIs s → FitsOpId id → FitsCapability capability → FitsOp asked → ActedIs s.kept (striped_handled site s.kept id capability asked)
+  striped_is : (s : FileState) (id : OpId) (capability : Capability) (asked : Op) → FileIs s → FitsOpId id → FitsCapability capability → FitsOp asked → ActedIs s.kept (handle_striped site s.kept id capability asked)
   striped_is s id capability asked is who seal fits =
       striped_cases (ActedIs s.kept) site s.kept id capability asked
       (record {
         nothing = record { next = tt; answer = tt };
         denied = λ why. told (reply.Denied why) tt;
-        read = λ object at len same goes. told (read_served body head object at len) (is.row.stands.place.writes, is.row.stands.after, shown object at len (subst FitsOp same fits));
+        read = λ object at len same goes. told (serve_read body head object at len) (is.row.stands.place.writes, is.row.stands.after, shown object at len (subst FitsOp same fits));
         again = λ count stands. told (reply.Ok count head.mark []) (subst (StandingIs objects stripe asked) stands standing_fits, is.row.stands.after, no_bytes);
         turned = λ answer stands. told answer (subst (StandingIs objects stripe asked) stands standing_fits);
         keeps = λ update keeps.
@@ -511,10 +511,10 @@ module _ (site : Site) (here : SiteIs site) where
           }))
 
   asks_is : (s : FileState) (k : Kind) (id : OpId) (capability : Capability) (asked : Op) → FileIs s → FitsOpId id → FitsCapability capability → FitsOp asked → StepIs s.kept (ask_comes site s k id capability asked)
-  unfolding ask_handled
+  unfolding handle_ask
   asks_is s kind.Replicated id capability asked is who seal fits =
       let_in_is s id capability asked (refusal_of site s.kept.location capability asked) refl is who seal fits (refused_is s.kept.location capability asked is.row.place)
-  asks_is s kind.Striped id capability asked is who seal fits = acts_is s id.client (striped_handled site s.kept id capability asked) is who.who (striped_is s id capability asked is who seal fits)
+  asks_is s kind.Striped id capability asked is who seal fits = acts_is s id.client (handle_striped site s.kept id capability asked) is who.who (striped_is s id capability asked is who seal fits)
 
   -- ---- a message
 

@@ -12,7 +12,7 @@ use Rattle.xt_messages.specs.declared.message.Payload.{Payload}
 use Rattle.xt_messages.specs.declared.message.Payload.TheVariants as payload
 use Rattle.xt_messages.specs.Limits.{FitsBoot, FitsBallot, FitsLease, FitsNode, FitsPayload}
 use Rattle.xt_protocol.specs.Register.{Seat, Round, Took, ignored, counted, write_to, alive, Promised, on_promise, report_taken, promise_counted, promise_ignored, live_report, report_after_write, bars, awaits_promise, with_promise, has_promise, majority_of, counted_pairs, awaits_acceptance, with_acceptance, on_acceptance, lease_of, same_ballot, empty_seat}
-use Rattle.xt_protocol.specs.LeaseRows.{Proposer, Held, LeaseState, free, asking, writing, held, LeaseNews, sends_write, holds, finds, ends, LeaseStep, Renewal, no_news, renewal_write, renewed, Renewing, Written, written_still, written_won, written_late, Asked, asked_still, asked_write, asked_found, asked_by, on_answer, asking_promised, asking_answered, writing_answered, writing_accepted, round_won, is_inside, round_over, outrun_learnt, step_of_asking, step_of_written, targets_of, news_of_targets, news_of_renewal, renewal_answered, renewal_promised, renewal_accepted, renewal_won, renewal_under, on_renewal, can_ask, round_starts, renewal_starts, lease_expired, has_run_out, has_turn, renewal_left, with_renewal, without_renewal}
+use Rattle.xt_protocol.specs.LeaseRows.{Proposer, Held, LeaseState, free, asking, writing, held, LeaseNews, sends_write, holds, finds, ends, LeaseStep, Renewal, no_news, renewal_write, renewed, Renewing, Written, written_still, written_won, written_late, Asked, asked_still, asked_write, asked_found, asked_by, on_answer, asking_promised, answer_asking, answer_writing, writing_accepted, round_won, is_inside, round_over, outrun_learnt, step_of_asking, step_of_written, targets_of, news_of_targets, news_of_renewal, renewal_answered, renewal_promised, renewal_accepted, renewal_won, renewal_under, on_renewal, can_ask, round_starts, renewal_starts, lease_expired, has_run_out, has_turn, renewal_left, with_renewal, without_renewal}
 use Rattle.xt_protocol.specs.LeaseRows as lease
 use Rattle.object_versions.proofs.HeadLimits.{either}
 use Rattle.world_limits.proofs.Lists.{all_map, all_weaker}
@@ -143,7 +143,7 @@ asking_is r now from boot report is node fits told =
 step_either : (b : Bool) (x y : LeaseStep) → LeaseStepIs x → LeaseStepIs y → LeaseStepIs (cond b x y)
 step_either b x y p q = either LeaseStepIs b x y p q
 
-asking_answers : (r : Round) (now : ℕ) (from : NodeId) (content : Payload) → RoundIs r → FitsNode from → FitsPayload content → LeaseStepIs (asking_answered r now from content)
+asking_answers : (r : Round) (now : ℕ) (from : NodeId) (content : Payload) → RoundIs r → FitsNode from → FitsPayload content → LeaseStepIs (answer_asking r now from content)
 asking_answers r now from (payload.Promise file ballot boot report) is node fits =
     step_either (same_ballot ballot r.ballot) _ _ (asking_is r now from boot report is node fits.2 fits.3) (record { state = is; news = tt })
 asking_answers r now from (payload.Outrun file ballot seen) is node fits =
@@ -167,7 +167,7 @@ accepting_is r now from boot is =
     either (λ w. LeaseStepIs (step_of_written w)) taken.wins (round_won taken.round now) (written_still taken.round)
     (written_is taken.round now (acceptance_is r from boot is)) (record { state = acceptance_is r from boot is; news = tt })
 
-writing_answers : (r : Round) (now : ℕ) (from : NodeId) (content : Payload) → RoundIs r → FitsNode from → FitsPayload content → LeaseStepIs (writing_answered r now from content)
+writing_answers : (r : Round) (now : ℕ) (from : NodeId) (content : Payload) → RoundIs r → FitsNode from → FitsPayload content → LeaseStepIs (answer_writing r now from content)
 writing_answers r now from (payload.Promise file ballot boot report) is node fits =
     let p = promise_is r now from boot report is node fits.2 fits.3 in
     let promised = on_promise r now from boot report in

@@ -17,7 +17,7 @@ use Rattle.xt_protocol.specs.LeaseRows.{Silent, Awake, is_silent}
 use Rattle.xt_protocol.specs.FileStates.{FileState, Site, FileStep, file_from}
 use Rattle.xt_protocol.specs.Overdue.{expired}
 use Rattle.xt_protocol.specs.FileSteps.{step_of_file, wake_of_file}
-use Rattle.xt_protocol.specs.OsdSteps.{OsdState, OsdStep, FilesStep, osd_from, file_at, with_file, each_file, file_concerned, message_handled, woken, event_handled, handled_awake, step_of_osd}
+use Rattle.xt_protocol.specs.OsdSteps.{OsdState, OsdStep, FilesStep, osd_from, file_at, with_file, each_file, file_concerned, handle_message, woken, handle_event, handled_awake, step_of_osd}
 use Rattle.osd_invariants.specs.Sound.{IsSound}
 use Rattle.lease_runs.proofs.ActSteps.{woken_quiet}
 use Rattle.xt_messages.specs.declared.file.Capability.{Capability}
@@ -110,7 +110,7 @@ concerned_is (payload.Stop tag) fits = tt
 
 module _ (records : List Record) (site : Site) (here : SiteIs site) (awake : Awake) (is : AwakeIs awake) (files : List FileState) (all : AllByRecursion FileIs files)
     (agrees : (file : FileId) → (file_at awake files file).kept ≡ row_in (fold_of records).files file) (sound : (file : FileId) → IsSound (file_at awake files file)) where
-  message_is : (msg : Msg) (o : Option FileId) → IfSome o FitsFile → FitsMessage msg → FilesAre records (message_handled site awake files msg o)
+  message_is : (msg : Msg) (o : Option FileId) → IfSome o FitsFile → FitsMessage msg → FilesAre records (handle_message site awake files msg o)
   message_is msg None which fits = record { each = all; next = tt; outs = tt }
   message_is msg (Some file) which fits =
       let s = file_at awake files file in
@@ -152,7 +152,7 @@ module _ (records : List Record) (site : Site) (here : SiteIs site) (awake : Awa
         outs = (sent site.node (record { 0 = 900 }) _ here.who (omega arith) (omega arith, (omega arith, omega arith)), all_append FitsMessage settled.turned.outs woke.turned.outs first.told second.told);
       }
 
-  pub handled_is : (happens : Event) → FitsEvent happens → FilesAre records (event_handled site awake files happens)
+  pub handled_is : (happens : Event) → FitsEvent happens → FilesAre records (handle_event site awake files happens)
   handled_is (event.Deliver msg) fits = message_is msg (file_concerned msg.payload) (concerned_is msg.payload fits.content) fits
   handled_is event.Wake fits = woken_is
   handled_is (event.Call call) fits = record { each = all; next = tt; outs = tt }

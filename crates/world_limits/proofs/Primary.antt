@@ -34,7 +34,7 @@ use Rattle.xt_protocol.specs.Choice.{chosen_of, difference}
 use Rattle.xt_protocol.specs.Turns.{to_each}
 use Rattle.xt_protocol.specs.ReplicaRows.{stage_record}
 use Rattle.xt_protocol.specs.Primaries.{Ground, Led, unknown_peer, peer_in, with_peer, nodes_of, reports_of, majority_among, statuses_counted, with_node, carries, known_of_report, known_of_own, fed_next, fed, last_sent, if_any, last_to_each, target_of, is_unknown}
-use Rattle.xt_protocol.specs.PrimaryRows.{unmoved, epoch_above, epoch_drawn, peer_fed, peers_fed, installs, fetches, chooses, status_counted, with_state, peer_sent, feeds, status_told, newer_body, body_put_by, body_beyond, body_fetched, hears_object, target_in, body_staged, body_missed, hears_missing, makes_current, head_acked, committed, update_acked, acked_below, hears_ack, forgotten, peer_behind, outpromised, epoch_told, hears_peer, hears_member, hears_epoch, hears_in, hears}
+use Rattle.xt_protocol.specs.PrimaryRows.{unmoved, epoch_above, draw_epoch, feed_peer, feed_peers, installs, fetches, chooses, status_counted, with_state, send_to_peer, feeds, take_status, newer_body, body_put_by, body_beyond, take_body, hears_object, target_in, body_staged, body_missed, hears_missing, makes_current, ack_head, committed, ack_update, acked_below, hears_ack, forgotten, peer_behind, outpromised, message_epoch, hears_peer, hears_member, hears_epoch, hears_in, hears}
 use Rattle.replica_runs.specs.Seen.{AckedFit, nodes_in}
 use Rattle.replica_runs.proofs.Choices.{chosen_is}
 use Rattle.replica_runs.proofs.Counts.{acked_fits}
@@ -183,8 +183,8 @@ above_both a b = omega arith
 
 -- an epoch is drawn
 pub drawn_is : (place : Place) (learnt : ℕ) (own : FileHead) (members : List NodeId) → FitsNode place.node → FitsFile place.file → IsCount learnt → AllByRecursion FitsNode members → length members ≤ 9
-    → LedIs place.file own (epoch_drawn place learnt own members)
-unfolding epoch_drawn
+    → LedIs place.file own (draw_epoch place learnt own members)
+unfolding draw_epoch
 drawn_is place learnt own members who which number all few =
     when (LedIs place.file own) (nat_lt (epoch_above place learnt own).number COUNTS) _ _
     (λ room.
@@ -211,11 +211,11 @@ module _ (g : Ground) (learnt : ℕ) (ground : GroundIs g) (number : IsCount lea
 
   -- ---- the chosen head
 
-  fed_peers : (target : FileHead) (peers : List Peer) → FitsHead target → AllByRecursion PeerIs peers → AllByRecursion PeerIs (peers_fed g target peers)
+  fed_peers : (target : FileHead) (peers : List Peer) → FitsHead target → AllByRecursion PeerIs peers → AllByRecursion PeerIs (feed_peers g target peers)
   fed_peers target [] whole all = tt
   fed_peers target (p ∷ ps) whole all = ((all.0.0, at p.state all.0.1), fed_peers target ps whole all.1)
     where
-      at : (s : PeerState) → PeerStateIs s → PeerStateIs (peer_fed g target p.node s)
+      at : (s : PeerState) → PeerStateIs s → PeerStateIs (feed_peer g target p.node s)
       at peer.Unknown is = is
       at (peer.Reported head) is =
           either PeerStateIs (p.node.0 == g.place.node.0) (peer.Reported head) (fed g.body target (known_of_report head)) is (fed_is g.body target (known_of_report head) ground.bodies whole)
@@ -223,7 +223,7 @@ module _ (g : Ground) (learnt : ℕ) (ground : GroundIs g) (number : IsCount lea
       at (peer.Heading known head) is = is
       at peer.Current is = is
 
-  fed_nodes : (target : FileHead) (peers : List Peer) → nodes_in (peers_fed g target peers) ≡ nodes_in peers
+  fed_nodes : (target : FileHead) (peers : List Peer) → nodes_in (feed_peers g target peers) ≡ nodes_in peers
   fed_nodes target [] = refl
   fed_nodes target (p ∷ ps) = ap (λ ns. p.node.0 ∷ ns) (fed_nodes target ps)
 
@@ -240,7 +240,7 @@ module _ (g : Ground) (learnt : ℕ) (ground : GroundIs g) (number : IsCount lea
         next = tt;
         outs = (
           sent g.place.node g.place.node (payload.Head g.place.file t.epoch target) ground.who ground.who (ground.which, is.place, fits),
-          lasts_sent g.place t.epoch (peers_fed g target t.peers) ground.who ground.which is.place peers,
+          lasts_sent g.place t.epoch (feed_peers g target t.peers) ground.who ground.which is.place peers,
         );
       }
 
@@ -271,7 +271,7 @@ module _ (g : Ground) (learnt : ℕ) (ground : GroundIs g) (number : IsCount lea
   counted_is t is =
       either Leads (nat_le (majority_among t.peers) (statuses_counted t.peers)) _ _ (chooses_is t (reports_of t.peers) is (reports_are t.peers is.each)) (still t is)
 
-  sends_peer : (t : Tenure) (node : NodeId) (state : PeerState) → TenureIs t → FitsNode node → PeerStateIs state → Leads (peer_sent g learnt t node state)
+  sends_peer : (t : Tenure) (node : NodeId) (state : PeerState) → TenureIs t → FitsNode node → PeerStateIs state → Leads (send_to_peer g learnt t node state)
   sends_peer t node state is to fits = record {
     primary = record { number = number; leads = state_put t node state fits is };
     next = tt;
@@ -281,7 +281,7 @@ module _ (g : Ground) (learnt : ℕ) (ground : GroundIs g) (number : IsCount lea
   feeds_is : (t : Tenure) (node : NodeId) (target : FileHead) (known : List ObjectVersion) → TenureIs t → FitsNode node → FitsHead target → Leads (feeds g learnt t node target known)
   feeds_is t node target known is to whole = sends_peer t node (fed g.body target known) is to (fed_is g.body target known ground.bodies whole)
 
-  told_is : (t : Tenure) (p : Progress) (from : NodeId) (head : FileHead) → TenureIs t → ProgressIs t.peers p → FitsNode from → FitsHead head → Leads (status_told g learnt t p from head)
+  told_is : (t : Tenure) (p : Progress) (from : NodeId) (head : FileHead) → TenureIs t → ProgressIs t.peers p → FitsNode from → FitsHead head → Leads (take_status g learnt t p from head)
   told_is t progress.Gathering from head is stands to whole = counted_is (with_state t from (peer.Reported head)) (state_put t from (peer.Reported head) whole is)
   told_is t (progress.Fetching chosen source asked later) from head is stands to whole = still (with_state t from (peer.Reported head)) (state_put t from (peer.Reported head) whole is)
   told_is t (progress.Installing chosen acked) from head is stands to whole =
@@ -310,7 +310,7 @@ module _ (g : Ground) (learnt : ℕ) (ground : GroundIs g) (number : IsCount lea
 
   -- a body is kept, and the next one is asked for
   fetched_is : (t : Tenure) (chosen : FileHead) (source : NodeId) (later : List ObjectVersion) (object : ℕ) (version : Stamp) (bytes : List ℕ) → TenureIs t → FitsHead chosen → FitsNode source → AllByRecursion FitsVersion later
-      → IsObject object → FitsStamp version → FitsBytes bytes → Hears (body_fetched g learnt t chosen source later object version bytes)
+      → IsObject object → FitsStamp version → FitsBytes bytes → Hears (take_body g learnt t chosen source later object version bytes)
   fetched_is t chosen source later object version bytes is whole from all small place few =
       let rec = stage_record g.place.file g.held object version bytes in
       let over : GroundIs (record g { body = body_beyond g.place.file rec g.body }) = record {
@@ -361,7 +361,7 @@ module _ (g : Ground) (learnt : ℕ) (ground : GroundIs g) (number : IsCount lea
   missed_is t (Some target) from (peer.Heading known head) v is whole to = feeds_is g learnt ground number t from target (without_version known v) is to whole
   missed_is t (Some target) from peer.Current v is whole to = calm t is
 
-  draws_again : (t : Tenure) (more : ℕ) → TenureIs t → IsCount more → Hears (epoch_drawn g.place more g.own (nodes_of t.peers))
+  draws_again : (t : Tenure) (more : ℕ) → TenureIs t → IsCount more → Hears (draw_epoch g.place more g.own (nodes_of t.peers))
   draws_again t more is count =
       drawn_is g.place more g.own (nodes_of t.peers) ground.who ground.which count (nodes_are t.peers is.each) (subst (λ n. n ≤ 9) (sym (nodes_count t.peers)) is.few)
 
@@ -378,7 +378,7 @@ module _ (g : Ground) (learnt : ℕ) (ground : GroundIs g) (number : IsCount lea
   come_to : (t : Tenure) (p : Progress) → TenureIs t → ProgressIs t.peers p → TenureIs (record t { progress = p })
   come_to t p is stands = record { place = is.place; few = is.few; each = is.each; stands = stands }
 
-  head_acked_is : (t : Tenure) (chosen : FileHead) (acked : List NodeId) → TenureIs t → FitsHead chosen → AckedIs t.peers acked → Hears (head_acked g learnt t chosen acked)
+  head_acked_is : (t : Tenure) (chosen : FileHead) (acked : List NodeId) → TenureIs t → FitsHead chosen → AckedIs t.peers acked → Hears (ack_head g learnt t chosen acked)
   head_acked_is t chosen acked is whole count =
       either Hears (carries g.place t.peers acked) _ _
       (record { primary = record { number = number; leads = come_to t (progress.Active g.own None) is (ground.stands, tt) }; next = tt; outs = tt })
@@ -391,7 +391,7 @@ module _ (g : Ground) (learnt : ℕ) (ground : GroundIs g) (number : IsCount lea
     outs = (sent g.place.node update.id.client _ ground.who fits.operation.who (fits.operation.operation, ground.which, (fits.place.writes, fits.after, no_bytes)), tt);
   }
 
-  update_acked_is : (t : Tenure) (head : FileHead) (update : Update) (acked : List NodeId) → TenureIs t → FitsHead head → FitsUpdate update → AckedIs t.peers acked → Hears (update_acked g learnt t head update acked)
+  update_acked_is : (t : Tenure) (head : FileHead) (update : Update) (acked : List NodeId) → TenureIs t → FitsHead head → FitsUpdate update → AckedIs t.peers acked → Hears (ack_update g learnt t head update acked)
   update_acked_is t head update acked is whole fits count =
       either Hears (carries g.place t.peers acked) _ _ (committed_is t update is fits)
       (calm (record t { progress = progress.Active head (Some (record { update = update; acked = acked })) })
@@ -480,7 +480,7 @@ module _ (g : Ground) (learnt : ℕ) (ground : GroundIs g) (number : IsCount lea
 
   pub hears_in_is : (o : Option Tenure) (from : NodeId) (content : Payload) → IfSome o TenureIs → FitsNode from → FitsPayload content → Hears (hears_in g learnt o from content)
   hears_in_is None from content is to fits = record { primary = record { number = number; leads = tt }; next = tt; outs = tt }
-  hears_in_is (Some t) from content is to fits = epoch_is t from (epoch_told content) content is to fits
+  hears_in_is (Some t) from content is to fits = epoch_is t from (message_epoch content) content is to fits
 
 -- a message to a primary
 pub hears_is : (g : Ground) (p : PrimaryState) (from : NodeId) (content : Payload) → GroundIs g → PrimaryIs p → FitsNode from → FitsPayload content → LedIs g.place.file g.own (hears g p from content)

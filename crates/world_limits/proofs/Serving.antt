@@ -28,7 +28,7 @@ use Rattle.xt_protocol.specs.declared.states.Tenure.{Tenure}
 use Rattle.xt_protocol.specs.declared.states.WaitingAsk.{WaitingAsk}
 use Rattle.xt_protocol.specs.Writes.{WriteStanding, repeated, older, turned_away, fresh, standing}
 use Rattle.xt_protocol.specs.Primaries.{Ground, Led, is_current, if_any}
-use Rattle.xt_protocol.specs.Serving.{reads_in, reads_under, reads, current_others, issues, next_update_of, issues_unless, write_stands, writes_in, writes_under, writes, gather_unknown, unacked, sent_again, to_peers, wakes_in, wakes_under, wakes}
+use Rattle.xt_protocol.specs.Serving.{reads_in, reads_under, reads, current_others, issues, next_update_of, issues_unless, write_stands, writes_in, writes_under, writes, gather_unknown, unacked, resend, to_peers, wakes_in, wakes_under, wakes}
 use Rattle.object_versions.proofs.HeadLimits.{either, when}
 use Rattle.client_limits.proofs.Lists.{all_filter}
 use Rattle.world_limits.proofs.Lists.{all_flat, all_weaker}
@@ -144,7 +144,7 @@ module _ (place : Place) (who : FitsNode place.node) (which : FitsFile place.fil
   unacked_is peers node None is = tt
   unacked_is peers node (Some u) is = either (λ o. IfSome o FitsPayload) (has_node u.acked node.0) None (Some (payload.Update place.file u.update)) tt (which, is.0)
 
-  again_is : (peers : List Peer) (epoch : Epoch) (issued : Option IssuedUpdate) (node : NodeId) (state : PeerState) → FitsEpoch epoch → IssuedIs peers issued → PeerStateIs state → IfSome (sent_again place epoch issued node state) FitsPayload
+  again_is : (peers : List Peer) (epoch : Epoch) (issued : Option IssuedUpdate) (node : NodeId) (state : PeerState) → FitsEpoch epoch → IssuedIs peers issued → PeerStateIs state → IfSome (resend place epoch issued node state) FitsPayload
   again_is peers epoch issued node peer.Unknown fits u is = (which, fits)
   again_is peers epoch issued node (peer.Reported head) fits u is = tt
   again_is peers epoch issued node (peer.Feeding known object version body) fits u is = last_is place.file epoch (peer.Feeding known object version body) which fits is
@@ -156,9 +156,9 @@ module _ (place : Place) (who : FitsNode place.node) (which : FitsFile place.fil
   wakes_in_is t (progress.Fetching chosen source asked later) is stands =
       (sent place.node source (payload.Fetch place.file t.epoch asked.object asked.version) who stands.1 (which, is.place, stands.2.which, stands.2.write), tt)
   wakes_in_is t (progress.Installing chosen acked) is stands =
-      peers_sent t.peers (sent_again place t.epoch None) is.each (λ p fits. again_is t.peers t.epoch None p.node p.state is.place tt fits.1)
+      peers_sent t.peers (resend place t.epoch None) is.each (λ p fits. again_is t.peers t.epoch None p.node p.state is.place tt fits.1)
   wakes_in_is t (progress.Active head issued) is stands =
-      peers_sent t.peers (sent_again place t.epoch issued) is.each (λ p fits. again_is t.peers t.epoch issued p.node p.state is.place stands.1 fits.1)
+      peers_sent t.peers (resend place t.epoch issued) is.each (λ p fits. again_is t.peers t.epoch issued p.node p.state is.place stands.1 fits.1)
 
   pub wakes_is : (p : PrimaryState) → PrimaryIs p → AreSent (wakes place p).outs
   unfolding wakes

@@ -50,9 +50,9 @@ use Rattle.xt_protocol.specs.Serving.{reads, writes, wakes}
 use Rattle.xt_protocol.specs.Asks.{Served, WAITING, no_asks, waits, stays, is_read, read_answer, newly_issued, write_done, serves, serves_waiting, serves_all, comes_back, asks_follow, asked_already, tells_each, tells_untold}
 use Rattle.xt_protocol.specs.FileStates.{FileState, Site, FileStep, nothing, steps_to, and_then, members_of, ground_of}
 use Rattle.xt_protocol.specs.Overdue.{is_due, issued_due, newly_due, deadlines_under, lease_became, expired}
-use Rattle.xt_protocol.specs.FileLeases.{read_comes, write_comes, answer_comes, answer_to_read, answers_to_write, end_after_answer, waiting_told, led_on, lease_news}
-use Rattle.xt_protocol.specs.AskRows.{ask_waits, ask_served, elsewhere, ask_without_lease, ask_under, ask_rows, ask_let_in, refusal_of, capability_refused, capability_list_range, list_and_range, with_member, list_against, same_list, leaves_object, ask_handled, waiting_ask, view_record}
-use Rattle.xt_protocol.specs.StripedRows.{striped_handled}
+use Rattle.xt_protocol.specs.FileLeases.{read_comes, write_comes, answer_comes, answer_to_read, answers_to_write, end_after_answer, answer_waiting, led_on, lease_news}
+use Rattle.xt_protocol.specs.AskRows.{ask_waits, serve_ask, elsewhere, ask_without_lease, ask_under, ask_rows, ask_let_in, refusal_of, capability_refused, capability_list_range, list_and_range, with_member, list_against, same_list, leaves_object, handle_ask, waiting_ask, view_record}
+use Rattle.xt_protocol.specs.StripedRows.{handle_striped}
 use Rattle.xt_protocol.specs.FileSteps.{ask_comes, primary_hears, message_comes, renews, step_of_file, wakes_under_lease, wake_of_file}
 use Rattle.osd_invariants.proofs.StripedAsks.{striped_outcome}
 use Rattle.lease_runs.proofs.LeaseSteps.{expired_keeps}
@@ -302,7 +302,7 @@ module _ (Q : OpId → Type 0) where
 
     -- ---- the lease
 
-    told_is : (s : FileState) (answer : Reply) → IsNo answer → FileIs s → Stay (waiting_told site s answer)
+    told_is : (s : FileState) (answer : Reply) → IsNo answer → FileIs s → Stay (answer_waiting site s answer)
     told_is s answer off is =
         record { state = record { asks = record { waiting = λ w h. absurd h; issued = is.asks.issued }; tenure = is.tenure }; said = each_no file site.node s.kept.file s.asks.waiting answer off; marks = tt }
 
@@ -326,7 +326,7 @@ module _ (Q : OpId → Type 0) where
     news_is s (holds end) is =
         let both = held_is (record s { last_end = end }) s.primary.tenure (mark.Held s.kept.file.number end ∷ []) (record { asks = is.asks; tenure = is.tenure }) in
         record { state = both.0; said = both.1; marks = (tt, both.2) }
-    news_is s (finds l) is = either_step (l.node.0 == site.node.0) (waiting_told site s (reply.NoLease s.last_end)) (waiting_told site s (reply.Elsewhere l.node l.end))
+    news_is s (finds l) is = either_step (l.node.0 == site.node.0) (answer_waiting site s (reply.NoLease s.last_end)) (answer_waiting site s (reply.Elsewhere l.node l.end))
         (told_is s (reply.NoLease s.last_end) tt is) (told_is s (reply.Elsewhere l.node l.end) tt is)
     news_is s ends is = told_is s (reply.NoLease s.last_end) tt is
 
@@ -418,7 +418,7 @@ module _ (Q : OpId → Type 0) where
 
     under_is : (s : FileState) (l : LeaseState) (ask : WaitingAsk) → FileIs s → Q ask.id → Keeps s (ask_under site s l ask)
     under_is s (held h) ask is q =
-        either_keeps s.kept.file.number (is_active s.primary.tenure) (ask_served site s ask) (ask_waits s ask)
+        either_keeps s.kept.file.number (is_active s.primary.tenure) (serve_ask site s ask) (ask_waits s ask)
         (let served = serves_is (ground_of site s) (record { primary = s.primary; asks = s.asks; turned = quiet }) ask (waits s.asks ask) (record { asks = is.asks; tenure = is.tenure; said = tt; marks = tt }) (waits_are s.asks ask is.asks q) q in
         record { state = record { asks = served.asks; tenure = served.tenure }; said = served.said; marks = served.marks })
         (waits_is s ask is q)
@@ -457,7 +457,7 @@ module _ (Q : OpId → Type 0) where
         stored (Some location) = let p = rows (steps_to (record s { used = site.now }) (keeps (view_record s capability.location (Some location)))).state refl (record { asks = is.asks; tenure = is.tenure }) in record { state = p.state; said = p.said; marks = p.marks }
 
     asks_is : (s : FileState) (k : Kind) (id : OpId) (capability : Capability) (asked : Op) → k ≡ kind.Replicated → FileIs s → Q id → Keeps s (ask_comes site s k id capability asked)
-    unfolding ask_handled
+    unfolding handle_ask
     asks_is s kind.Replicated id capability asked replicated is q = let_in_is s id capability asked (refusal_of site s.kept.location capability asked) (refusal_no site s.kept.location capability asked) is q
     asks_is s kind.Striped id capability asked replicated is q = absurd cc
 
@@ -536,14 +536,14 @@ module _ (Q : OpId → Type 0) where
         one m answer (inl e) = (ap (λ (k : Msg). k.to) e, t.kept.file, answer, ap (λ (k : Msg). k.payload) e)
         one m answer (inr h) = absurd h
 
-        replied : (m : Msg) → Told m (striped_handled site t.kept id capability asked)
+        replied : (m : Msg) → Told m (handle_striped site t.kept id capability asked)
         replied m =
             striped_outcome (Told m) site t.kept id capability asked
             (record { nothing = λ h. absurd h; tells = λ answer. one m answer; keeps = λ update keeps. one m (reply.Ok update.stamp.count update.mark []) })
 
-        said : (m : Msg) → Has m ((expired site s).turned.outs ++ if_any site.node from (striped_handled site t.kept id capability asked).answer)
+        said : (m : Msg) → Has m ((expired site s).turned.outs ++ if_any site.node from (handle_striped site t.kept id capability asked).answer)
             → Said Q s.kept.file.number ((expired site s).turned.marks ++ []) m.to m.payload ⊎ IsStripedReply from (payload.Ask number capability asked) m
-        said m h = elim (has_in m (expired site s).turned.outs (if_any site.node from (striped_handled site t.kept id capability asked).answer) h) [
+        said m h = elim (has_in m (expired site s).turned.outs (if_any site.node from (handle_striped site t.kept id capability asked).answer) h) [
           | inl early ↦
               inl (one_more Q s.kept.file.number (expired site s).turned.marks ((expired site s).turned.marks ++ []) m.to m.payload (λ k there. has_left k (expired site s).turned.marks [] there)
               (said_of Q s.kept.file.number (expired site s).turned.marks (expired site s).turned.outs m first.said early))

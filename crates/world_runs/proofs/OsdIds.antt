@@ -21,7 +21,7 @@ use Rattle.lease_safety.specs.State.{Has}
 use Rattle.xt_protocol.specs.FileStates.{FileState, Site, FileStep, file_from}
 use Rattle.xt_protocol.specs.FileSteps.{step_of_file, wake_of_file}
 use Rattle.xt_protocol.specs.Overdue.{expired}
-use Rattle.xt_protocol.specs.OsdSteps.{Outside, OsdState, file_at, each_file, file_concerned, message_handled, woken, event_handled, handled_awake, step_of_osd}
+use Rattle.xt_protocol.specs.OsdSteps.{Outside, OsdState, file_at, each_file, file_concerned, handle_message, woken, handle_event, handled_awake, step_of_osd}
 use Rattle.osd_invariants.proofs.Kept.{step_follows, wake_follows}
 use Rattle.lease_runs.specs.ActsView.{AreActs, MarksAre, no_marks, won, acting}
 use Rattle.lease_runs.specs.OsdView.{site_of}
@@ -131,7 +131,7 @@ striped_told es from (payload.Ask number capability asked) m begun reply = (
 striped_told es from _ m begun reply = absurd reply
 
 message_is : (es : List Entry) (site : Site) (awake : Awake) (files : List FileState) (msg : Msg) (o : Option FileId) → file_concerned msg.payload ≡ o → FilesAre es files → HasBegun es msg.from msg.payload
-    → OsdIs es (message_handled site awake files msg o).files (message_handled site awake files msg o).turned
+    → OsdIs es (handle_message site awake files msg o).files (handle_message site awake files msg o).turned
 message_is es site awake files msg None concerns are begun = record { files_are = are; told = λ m h. absurd h; plain = tt; marked = (0, tt) }
 message_is es site awake files msg (Some file) concerns are begun =
     let s = file_at awake files file in
@@ -215,7 +215,7 @@ EventHasBegun es event.Wake = Unit {0}
 EventHasBegun es (event.Call call) = Unit {0}
 
 handled_is : (es : List Entry) (site : Site) (awake : Awake) (files : List FileState) (happens : Event) → FilesAre es files → EventHasBegun es happens
-    → OsdIs es (event_handled site awake files happens).files (event_handled site awake files happens).turned
+    → OsdIs es (handle_event site awake files happens).files (handle_event site awake files happens).turned
 handled_is es site awake files (event.Deliver msg) are begun = message_is es site awake files msg (file_concerned msg.payload) refl are begun
 handled_is es site awake files event.Wake are begun = woken_is es site files are
 handled_is es site awake files (event.Call call) are begun = record { files_are = are; told = λ m h. absurd h; plain = tt; marked = (0, tt) }

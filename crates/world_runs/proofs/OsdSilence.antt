@@ -21,7 +21,7 @@ use Rattle.xt_protocol.specs.declared.states.Tenure.{Tenure}
 use Rattle.xt_protocol.specs.FileStates.{FileState, Site, FileStep}
 use Rattle.xt_protocol.specs.FileSteps.{step_of_file, wake_of_file}
 use Rattle.xt_protocol.specs.Overdue.{expired}
-use Rattle.xt_protocol.specs.OsdSteps.{Outside, OsdState, file_at, each_file, file_concerned, message_handled, woken, event_handled, handled_awake, step_of_osd}
+use Rattle.xt_protocol.specs.OsdSteps.{Outside, OsdState, file_at, each_file, file_concerned, handle_message, woken, handle_event, handled_awake, step_of_osd}
 use Rattle.lease_runs.specs.ActsView.{AreActs, MarksAre, no_marks, won, acting}
 use Rattle.lease_runs.specs.OsdView.{site_of}
 use Rattle.lease_runs.specs.LeaseView.{settled_row}
@@ -80,7 +80,7 @@ striped_knows : (from : NodeId) (content : Payload) (m : Msg) → IsStripedReply
 striped_knows from (payload.Ask number capability asked) m reply files = subst (PayloadFits files) (sym reply.4) tt
 striped_knows from _ m reply files = absurd reply
 
-message_knows : (site : Site) (awake : Awake) (files : List FileState) (msg : Msg) (o : Option FileId) (m : Msg) → Has m (message_handled site awake files msg o).turned.outs → Knows m
+message_knows : (site : Site) (awake : Awake) (files : List FileState) (msg : Msg) (o : Option FileId) (m : Msg) → Has m (handle_message site awake files msg o).turned.outs → Knows m
 message_knows site awake files msg None m h = absurd h
 message_knows site awake files msg (Some file) m h =
     let s = file_at awake files file in
@@ -113,7 +113,7 @@ woken_knows site files m (inr h) =
           (said_of Any s.kept.file.number (wake_of_file site s).turned.marks (wake_of_file site s).turned.outs m (wake_is Any site s.kept.file.number s (any_file s)).said there)) late
     ]
 
-handled_knows : (site : Site) (awake : Awake) (files : List FileState) (happens : Event) (m : Msg) → Has m (event_handled site awake files happens).turned.outs → Knows m
+handled_knows : (site : Site) (awake : Awake) (files : List FileState) (happens : Event) (m : Msg) → Has m (handle_event site awake files happens).turned.outs → Knows m
 handled_knows site awake files (event.Deliver msg) m h = message_knows site awake files msg (file_concerned msg.payload) m h
 handled_knows site awake files event.Wake m h = woken_knows site files m h
 handled_knows site awake files (event.Call call) m h = absurd h
@@ -150,14 +150,14 @@ pub osd_makes_none : (outside : Outside) (s : OsdState) (reading : ℕ) (happens
 unfolding step_of_osd
 osd_makes_none outside s reading happens = at (awake_at s.started (max reading s.last))
   where
-    message : (site : Site) (awake : Awake) (msg : Msg) (o : Option FileId) → files_marked (message_handled site awake s.files msg o).turned.marks ≡ []
+    message : (site : Site) (awake : Awake) (msg : Msg) (o : Option FileId) → files_marked (handle_message site awake s.files msg o).turned.marks ≡ []
     message site awake msg None = refl
     message site awake msg (Some file) =
         let f = file_at awake s.files file in
         let step = step_of_file site f msg.from msg.payload in
         marks_make_none f.kept.file (settled_row site f).lease step.turned.marks (step_marks site f msg.from msg.payload)
 
-    handled : (site : Site) (awake : Awake) (happens : Event) → files_marked (event_handled site awake s.files happens).turned.marks ≡ []
+    handled : (site : Site) (awake : Awake) (happens : Event) → files_marked (handle_event site awake s.files happens).turned.marks ≡ []
     handled site awake (event.Deliver msg) = message site awake msg (file_concerned msg.payload)
     handled site awake event.Wake = ap (λ (ms : List Mark). files_marked ms) (woken_quiet site s.files).0
     handled site awake (event.Call call) = refl

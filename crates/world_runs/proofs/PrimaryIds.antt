@@ -31,8 +31,8 @@ use Rattle.xt_protocol.specs.ReplicaRows.{stage_record}
 use Rattle.xt_protocol.specs.Turns.{message}
 use Rattle.xt_protocol.specs.Writes.{WriteStanding, repeated, older, turned_away, fresh, standing, by_session, judged, reach, room_for_client, is_old_epoch, too_far, update_of}
 use Rattle.xt_protocol.specs.Primaries.{Ground, Led, carries, fed, if_any, is_unknown, known_of_report, majority_among, nodes_of, peer_in, reports_of, statuses_counted, target_of, with_node}
-use Rattle.xt_protocol.specs.PrimaryRows.{epoch_drawn, epoch_above, installs, peers_fed, fetches, head_chosen, chooses, status_counted, feeds, status_told, with_state, hears_status, body_fetched, body_beyond, hears_object, body_staged, body_missed, hears_missing, target_in, head_acked, update_acked, acked_below, hears_ack, makes_current, outpromised, hears_peer, hears_member, hears_epoch, hears_in, epoch_told, hears}
-use Rattle.xt_protocol.specs.Serving.{issues, issues_unless, write_stands, writes_in, writes_under, writes, next_update_of, current_others, gather_unknown, unacked, sent_again, wakes_in, wakes_under, wakes}
+use Rattle.xt_protocol.specs.PrimaryRows.{draw_epoch, epoch_above, installs, feed_peers, fetches, choose_head, chooses, status_counted, feeds, take_status, with_state, hears_status, take_body, body_beyond, hears_object, body_staged, body_missed, hears_missing, target_in, ack_head, ack_update, acked_below, hears_ack, makes_current, outpromised, hears_peer, hears_member, hears_epoch, hears_in, message_epoch, hears}
+use Rattle.xt_protocol.specs.Serving.{issues, issues_unless, write_stands, writes_in, writes_under, writes, next_update_of, current_others, gather_unknown, unacked, resend, wakes_in, wakes_under, wakes}
 use Rattle.world_runs.proofs.Said.{IsNo, AreSaid, AreMarked, no_said, map_said, flat_said, last_said, each_last_said}
 
 abbrev pub IssuedIs : (OpId → Type 0) → Option IssuedUpdate → Type 0
@@ -97,21 +97,21 @@ module _ (Q : OpId → Type 0) where
 
   -- ---- a tenure begins
 
-  pub drawn_said : (file : ℕ) (place : Place) (learnt : ℕ) (own : FileHead) (members : List NodeId) → LedSaid Q file (epoch_drawn place learnt own members)
-  unfolding epoch_drawn
+  pub drawn_said : (file : ℕ) (place : Place) (learnt : ℕ) (own : FileHead) (members : List NodeId) → LedSaid Q file (draw_epoch place learnt own members)
+  unfolding draw_epoch
   drawn_said file place learnt own members =
       either (nat_lt (epoch_above place learnt own).number COUNTS)
       (record { tenure = tt; said = map_said Q file [] (λ to. message place.node to (payload.Gather place.file (epoch_above place learnt own))) members (λ to. tt); marks = tt })
       (record { tenure = tt; said = tt; marks = tt })
 
   installs_said : (file : ℕ) (g : Ground) (learnt : ℕ) (t : Tenure) (chosen : FileHead) → LedSaid Q file (installs g learnt t chosen)
-  installs_said file g learnt t chosen = record { tenure = tt; said = (tt, each_last_said Q file [] g.place t.epoch (peers_fed g (target_of g.own t.epoch chosen) t.peers)); marks = tt }
+  installs_said file g learnt t chosen = record { tenure = tt; said = (tt, each_last_said Q file [] g.place t.epoch (feed_peers g (target_of g.own t.epoch chosen) t.peers)); marks = tt }
 
   fetches_said : (file : ℕ) (g : Ground) (learnt : ℕ) (t : Tenure) (chosen : FileHead) (source : NodeId) (wanted : List ObjectVersion) → LedSaid Q file (fetches g learnt t chosen source wanted)
   fetches_said file g learnt t chosen source [] = installs_said file g learnt t chosen
   fetches_said file g learnt t chosen source (v ∷ later) = record { tenure = tt; said = (tt, tt); marks = tt }
 
-  chosen_said : (file : ℕ) (g : Ground) (learnt : ℕ) (t : Tenure) (best : NodeId × FileHead) → LedSaid Q file (head_chosen g learnt t best)
+  chosen_said : (file : ℕ) (g : Ground) (learnt : ℕ) (t : Tenure) (best : NodeId × FileHead) → LedSaid Q file (choose_head g learnt t best)
   chosen_said file g learnt t best = either (best.0.0 == g.place.node.0) (installs_said file g learnt t best.1) (fetches_said file g learnt t best.1 best.0 _)
 
   chooses_said : (file : ℕ) (g : Ground) (learnt : ℕ) (t : Tenure) (reports : List (NodeId × FileHead)) → ProgressIs Q t.progress → LedSaid Q file (chooses g learnt t reports)
@@ -126,7 +126,7 @@ module _ (Q : OpId → Type 0) where
   feeds_said : (file : ℕ) (g : Ground) (learnt : ℕ) (t : Tenure) (node : NodeId) (target : FileHead) (known : List ObjectVersion) → ProgressIs Q t.progress → LedSaid Q file (feeds g learnt t node target known)
   feeds_said file g learnt t node target known h = record { tenure = h; said = last_said Q file [] g.place.node node g.place.file t.epoch (fed g.body target known); marks = tt }
 
-  told_said : (file : ℕ) (g : Ground) (learnt : ℕ) (t : Tenure) (p : Progress) (from : NodeId) (head : FileHead) → ProgressIs Q t.progress → LedSaid Q file (status_told g learnt t p from head)
+  told_said : (file : ℕ) (g : Ground) (learnt : ℕ) (t : Tenure) (p : Progress) (from : NodeId) (head : FileHead) → ProgressIs Q t.progress → LedSaid Q file (take_status g learnt t p from head)
   told_said file g learnt t progress.Gathering from head h = counted_said file g learnt (with_state t from (peer.Reported head)) h
   told_said file g learnt t (progress.Fetching chosen source asked later) from head h = record { tenure = h; said = tt; marks = tt }
   told_said file g learnt t (progress.Installing chosen acked) from head h = feeds_said file g learnt t from (target_of g.own t.epoch chosen) (known_of_report head) h
@@ -138,7 +138,7 @@ module _ (Q : OpId → Type 0) where
   -- ---- fetching and feeding
 
   fetched_said : (file : ℕ) (g : Ground) (learnt : ℕ) (t : Tenure) (chosen : FileHead) (source : NodeId) (later : List ObjectVersion) (object : ℕ) (version : Stamp) (bytes : List ℕ)
-      → LedSaid Q file (body_fetched g learnt t chosen source later object version bytes)
+      → LedSaid Q file (take_body g learnt t chosen source later object version bytes)
   fetched_said file g learnt t chosen source later object version bytes =
       let p = fetches_said file (record g { body = body_beyond g.place.file (stage_record g.place.file g.held object version bytes) g.body }) learnt t chosen source later in
       record { tenure = p.tenure; said = p.said; marks = p.marks }
@@ -168,11 +168,11 @@ module _ (Q : OpId → Type 0) where
 
   -- ---- acknowledgements
 
-  head_acked_said : (file : ℕ) (g : Ground) (learnt : ℕ) (t : Tenure) (chosen : FileHead) (acked : List NodeId) → LedSaid Q file (head_acked g learnt t chosen acked)
+  head_acked_said : (file : ℕ) (g : Ground) (learnt : ℕ) (t : Tenure) (chosen : FileHead) (acked : List NodeId) → LedSaid Q file (ack_head g learnt t chosen acked)
   head_acked_said file g learnt t chosen acked = either (carries g.place t.peers acked) (record { tenure = tt; said = tt; marks = (tt, tt) }) (record { tenure = tt; said = tt; marks = tt })
 
   -- a client is answered
-  update_acked_said : (g : Ground) (learnt : ℕ) (t : Tenure) (head : FileHead) (update : Update) (acked : List NodeId) → Q update.id → LedSaid Q g.place.file.number (update_acked g learnt t head update acked)
+  update_acked_said : (g : Ground) (learnt : ℕ) (t : Tenure) (head : FileHead) (update : Update) (acked : List NodeId) → Q update.id → LedSaid Q g.place.file.number (ack_update g learnt t head update acked)
   update_acked_said g learnt t head update acked q =
       either (carries g.place t.peers acked) (record { tenure = tt; said = ((q, inr (inl refl)), tt); marks = ((refl, q), ((refl, q), tt)) }) (record { tenure = q; said = tt; marks = tt })
 
@@ -223,7 +223,7 @@ module _ (Q : OpId → Type 0) where
 
   in_said : (g : Ground) (learnt : ℕ) (t : Option Tenure) (from : NodeId) (content : Payload) → TenureIs Q t → LedSaid Q g.place.file.number (hears_in g learnt t from content)
   in_said g learnt None from content h = record { tenure = tt; said = tt; marks = tt }
-  in_said g learnt (Some t) from content h = epoch_said g learnt t from (epoch_told content) content h
+  in_said g learnt (Some t) from content h = epoch_said g learnt t from (message_epoch content) content h
 
   pub hears_said : (g : Ground) (p : PrimaryState) (from : NodeId) (content : Payload) → TenureIs Q p.tenure → LedSaid Q g.place.file.number (hears g p from content)
   unfolding hears
@@ -298,7 +298,7 @@ module _ (Q : OpId → Type 0) where
       one_of true = tt
       one_of false = (tt, tt)
 
-  again_said : (file : ℕ) (place : Place) (epoch : Epoch) (issued : Option IssuedUpdate) (node : NodeId) (state : PeerState) → AreSaid Q file [] (if_any place.node node (sent_again place epoch issued node state))
+  again_said : (file : ℕ) (place : Place) (epoch : Epoch) (issued : Option IssuedUpdate) (node : NodeId) (state : PeerState) → AreSaid Q file [] (if_any place.node node (resend place epoch issued node state))
   again_said file place epoch issued node peer.Unknown = (tt, tt)
   again_said file place epoch issued node (peer.Reported head) = tt
   again_said file place epoch issued node (peer.Feeding known object version body) = (tt, tt)
@@ -310,9 +310,9 @@ module _ (Q : OpId → Type 0) where
       flat_said Q file [] (λ p. if_any place.node p.node (gather_unknown place t.epoch p.node p.state)) t.peers (λ p. unknown_said file place t.epoch p.node p.state)
   wakes_in_said file place t (progress.Fetching chosen source asked later) = (tt, tt)
   wakes_in_said file place t (progress.Installing chosen acked) =
-      flat_said Q file [] (λ p. if_any place.node p.node (sent_again place t.epoch None p.node p.state)) t.peers (λ p. again_said file place t.epoch None p.node p.state)
+      flat_said Q file [] (λ p. if_any place.node p.node (resend place t.epoch None p.node p.state)) t.peers (λ p. again_said file place t.epoch None p.node p.state)
   wakes_in_said file place t (progress.Active head issued) =
-      flat_said Q file [] (λ p. if_any place.node p.node (sent_again place t.epoch issued p.node p.state)) t.peers (λ p. again_said file place t.epoch issued p.node p.state)
+      flat_said Q file [] (λ p. if_any place.node p.node (resend place t.epoch issued p.node p.state)) t.peers (λ p. again_said file place t.epoch issued p.node p.state)
 
   pub wakes_said : (file : ℕ) (place : Place) (p : PrimaryState) → AreSaid Q file [] (wakes place p).outs
   unfolding wakes

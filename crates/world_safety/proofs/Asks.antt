@@ -21,7 +21,7 @@ use Rattle.xt_messages.specs.declared.message.Payload.{Payload}
 use Rattle.xt_messages.specs.declared.message.Payload.TheVariants as payload
 use Rattle.lease_safety.specs.State.{Has}
 use Rattle.xt_protocol.specs.Turns.{the_record, reply_to}
-use Rattle.xt_protocol.specs.AskRows.{leaves_object, list_and_range, with_member, list_against, capability_refused, capability_list_range, refusal_of, ask_let_in, ask_handled}
+use Rattle.xt_protocol.specs.AskRows.{leaves_object, list_and_range, with_member, list_against, capability_refused, capability_list_range, refusal_of, ask_let_in, handle_ask}
 use Rattle.xt_protocol.specs.FileStates.{FileState, Site, FileStep, and_then}
 use Rattle.xt_protocol.specs.FileSteps.{message_comes, ask_comes, replica_acts, step_of_file}
 use Rattle.xt_protocol.specs.Primaries.{if_any}
@@ -83,7 +83,7 @@ refused_so site stored capability asked is = by_capability (capability_refused s
 
 pub outside_is_idle : (site : Site) (s : FileState) (from : NodeId) (content : Payload) (file : FileId) (epoch : Epoch) (object : ℕ) (version : Stamp) → IsOutside content
     → IsSameButSent (step_of_file site s from content) (step_of_file site s from (payload.Fetch file epoch object version))
-unfolding step_of_file ask_handled
+unfolding step_of_file handle_ask
 outside_is_idle site s from (payload.Ask number capability asked) file epoch object version is = by_kind capability.location.kind
   where
     id : OpId
@@ -118,7 +118,7 @@ outside_none site s from content is =
 -- and sends what the Fetch sends, and what says nothing of replication
 pub outside_sends : (site : Site) (s : FileState) (from : NodeId) (content : Payload) (file : FileId) (epoch : Epoch) (object : ℕ) (version : Stamp) → IsOutside content
     → (m : Msg) → Has m (step_of_file site s from content).turned.outs → Has m (step_of_file site s from (payload.Fetch file epoch object version)).turned.outs ⊎ ((n : ℕ) → shown n m.payload ≡ [])
-unfolding step_of_file ask_handled
+unfolding step_of_file handle_ask
 outside_sends site s from (payload.Ask number capability asked) file epoch object version is m = by_kind capability.location.kind
   where
     id : OpId

@@ -49,16 +49,16 @@ use Rattle.xt_protocol.specs.declared.states.Tenure.{Tenure}
 use Rattle.xt_protocol.specs.declared.states.WaitingAsk.{WaitingAsk}
 use Rattle.xt_protocol.specs.Turns.{quiet, keeps, message, reply_to}
 use Rattle.xt_protocol.specs.Primaries.{Ground, Led, carries, fed, if_any, is_active, is_ready, is_unknown, known_of_report, last_sent, last_to_each, have_in, majority_among, nodes_of, peer_in, reports_of, statuses_counted, target_of, with_node}
-use Rattle.xt_protocol.specs.PrimaryRows.{epoch_drawn, epoch_above, installs, peers_fed, fetches, head_chosen, chooses, status_counted, feeds, status_told, with_state, hears_status, body_fetched, body_beyond, hears_object, body_staged, body_missed, hears_missing, target_in, head_acked, update_acked, acked_below, hears_ack, makes_current, outpromised, hears_peer, hears_member, hears_epoch, hears_in, epoch_told, hears}
+use Rattle.xt_protocol.specs.PrimaryRows.{draw_epoch, epoch_above, installs, feed_peers, fetches, choose_head, chooses, status_counted, feeds, take_status, with_state, hears_status, take_body, body_beyond, hears_object, body_staged, body_missed, hears_missing, target_in, ack_head, ack_update, acked_below, hears_ack, makes_current, outpromised, hears_peer, hears_member, hears_epoch, hears_in, message_epoch, hears}
 use Rattle.xt_protocol.specs.ReplicaRows.{kept_after, gathered, fetched_from, staged, headed, updated, as_promised, head_offered, head_taken, head_fits, first_missing, update_offered, stage_record}
 use Rattle.xt_protocol.specs.Writes.{WriteStanding, repeated, older, turned_away, fresh, standing}
-use Rattle.xt_protocol.specs.Serving.{reads, issues, issues_unless, write_stands, writes_in, writes_under, writes, next_update_of, current_others, gather_unknown, unacked, sent_again, wakes_in, wakes_under, wakes}
+use Rattle.xt_protocol.specs.Serving.{reads, issues, issues_unless, write_stands, writes_in, writes_under, writes, next_update_of, current_others, gather_unknown, unacked, resend, wakes_in, wakes_under, wakes}
 use Rattle.xt_protocol.specs.Asks.{Served, is_read, read_answer, write_done, serves, serves_waiting, serves_all, stays, waits, no_asks, asks_follow, asked_already, tells_each, tells_untold}
 use Rattle.xt_protocol.specs.FileStates.{FileState, Site, FileStep, steps_to, and_then, members_of, ground_of}
 use Rattle.xt_protocol.specs.Overdue.{is_due, newly_due, deadlines_under, lease_became, expired}
 use Rattle.xt_protocol.specs.FileLeases.{read_comes, write_comes, answer_comes, answer_to_read, answers_to_write, end_after_answer, led_on, lease_news}
-use Rattle.xt_protocol.specs.AskRows.{elsewhere, ask_without_lease, ask_under, ask_rows, ask_let_in, refusal_of, ask_handled, waiting_ask, view_record}
-use Rattle.xt_protocol.specs.StripedRows.{striped_handled}
+use Rattle.xt_protocol.specs.AskRows.{elsewhere, ask_without_lease, ask_under, ask_rows, ask_let_in, refusal_of, handle_ask, waiting_ask, view_record}
+use Rattle.xt_protocol.specs.StripedRows.{handle_striped}
 use Rattle.xt_protocol.specs.FileSteps.{ask_comes, primary_hears, message_comes, renews, step_of_file, wakes_under_lease, wake_of_file}
 use Rattle.xt_protocol.specs.OsdSteps.{file_concerned}
 use Rattle.osd_invariants.proofs.Kept.{wake_keeps}
@@ -113,8 +113,8 @@ either : {node : NodeId} {file : FileId} (b : Bool) {x y : Led} → LedFrom node
 either true p q = p
 either false p q = q
 
-drawn_from : (place : Place) (learnt : ℕ) (own : FileHead) (members : List NodeId) → LedFrom place.node place.file (epoch_drawn place learnt own members)
-unfolding epoch_drawn
+drawn_from : (place : Place) (learnt : ℕ) (own : FileHead) (members : List NodeId) → LedFrom place.node place.file (draw_epoch place learnt own members)
+unfolding draw_epoch
 drawn_from place learnt own members =
     either (nat_lt (epoch_above place learnt own).number COUNTS)
     (record { outs = mapped place.node place.file (λ to. message place.node to (payload.Gather place.file (epoch_above place learnt own))) members (λ to. (refl, refl)) })
@@ -125,13 +125,13 @@ From g led = LedFrom g.place.node g.place.file led
 
 module _ (g : Ground) (learnt : ℕ) where
   installs_from : (t : Tenure) (chosen : FileHead) → From g (installs g learnt t chosen)
-  installs_from t chosen = record { outs = ((refl, refl), each_last_from g.place t.epoch (peers_fed g (target_of g.own t.epoch chosen) t.peers)) }
+  installs_from t chosen = record { outs = ((refl, refl), each_last_from g.place t.epoch (feed_peers g (target_of g.own t.epoch chosen) t.peers)) }
 
   fetches_from : (t : Tenure) (chosen : FileHead) (source : NodeId) (wanted : List ObjectVersion) → From g (fetches g learnt t chosen source wanted)
   fetches_from t chosen source [] = installs_from t chosen
   fetches_from t chosen source (v ∷ later) = record { outs = ((refl, refl), tt) }
 
-  chosen_from : (t : Tenure) (best : NodeId × FileHead) → From g (head_chosen g learnt t best)
+  chosen_from : (t : Tenure) (best : NodeId × FileHead) → From g (choose_head g learnt t best)
   chosen_from t best = either (best.0.0 == g.place.node.0) (installs_from t best.1) (fetches_from t best.1 best.0 _)
 
   chooses_from : (t : Tenure) (reports : List (NodeId × FileHead)) → From g (chooses g learnt t reports)
@@ -144,7 +144,7 @@ module _ (g : Ground) (learnt : ℕ) where
   feeds_from : (t : Tenure) (node : NodeId) (target : FileHead) (known : List ObjectVersion) → From g (feeds g learnt t node target known)
   feeds_from t node target known = record { outs = last_from g.place.node g.place.file node t.epoch (fed g.body target known) }
 
-  told_from : (t : Tenure) (p : Progress) (from : NodeId) (head : FileHead) → From g (status_told g learnt t p from head)
+  told_from : (t : Tenure) (p : Progress) (from : NodeId) (head : FileHead) → From g (take_status g learnt t p from head)
   told_from t progress.Gathering from head = counted_from (with_state t from (peer.Reported head))
   told_from t (progress.Fetching chosen source asked later) from head = record { outs = tt }
   told_from t (progress.Installing chosen acked) from head = feeds_from t from (target_of g.own t.epoch chosen) (known_of_report head)
@@ -167,10 +167,10 @@ module _ (g : Ground) (learnt : ℕ) where
       either (from.0 == source.0) (drawn_from g.place learnt g.own (nodes_of t.peers)) (record { outs = tt })
   missing_from t p from state v = missed_from t (target_in g.own t.epoch p) from state v
 
-  head_acked_from : (t : Tenure) (chosen : FileHead) (acked : List NodeId) → From g (head_acked g learnt t chosen acked)
+  head_acked_from : (t : Tenure) (chosen : FileHead) (acked : List NodeId) → From g (ack_head g learnt t chosen acked)
   head_acked_from t chosen acked = either (carries g.place t.peers acked) (record { outs = tt }) (record { outs = tt })
 
-  update_acked_from : (t : Tenure) (head : FileHead) (update : Update) (acked : List NodeId) → From g (update_acked g learnt t head update acked)
+  update_acked_from : (t : Tenure) (head : FileHead) (update : Update) (acked : List NodeId) → From g (ack_update g learnt t head update acked)
   update_acked_from t head update acked = either (carries g.place t.peers acked) (record { outs = ((refl, refl), tt) }) (record { outs = tt })
 
   acked_below_from : (t : Tenure) (head : FileHead) (from : NodeId) (stamp : Stamp) (newly : Bool) (issued : Option IssuedUpdate) → From g (acked_below g learnt t head from stamp newly issued)
@@ -187,7 +187,7 @@ module _ (g : Ground) (learnt : ℕ) where
 
 -- body fetched: the head may be fed with this very body
 fetched_from_so : (g : Ground) (learnt : ℕ) (t : Tenure) (chosen : FileHead) (source : NodeId) (later : List ObjectVersion) (object : ℕ) (version : Stamp) (bytes : List ℕ)
-    → From g (body_fetched g learnt t chosen source later object version bytes)
+    → From g (take_body g learnt t chosen source later object version bytes)
 fetched_from_so g learnt t chosen source later object version bytes =
     let p = fetches_from (record g { body = body_beyond g.place.file (stage_record g.place.file g.held object version bytes) g.body }) learnt t chosen source later in
     record { outs = p.outs }
@@ -221,7 +221,7 @@ module _ (g : Ground) (learnt : ℕ) where
 
   in_from : (t : Option Tenure) (from : NodeId) (content : Payload) → From g (hears_in g learnt t from content)
   in_from None from content = record { outs = tt }
-  in_from (Some t) from content = epoch_from t from (epoch_told content) content
+  in_from (Some t) from content = epoch_from t from (message_epoch content) content
 
   -- ---- writes
 
@@ -279,7 +279,7 @@ module _ (place : Place) where
       at true = tt
       at false = ((refl, refl), tt)
 
-  again_from : (epoch : Epoch) (issued : Option IssuedUpdate) (node : NodeId) (state : PeerState) → Sent (if_any place.node node (sent_again place epoch issued node state))
+  again_from : (epoch : Epoch) (issued : Option IssuedUpdate) (node : NodeId) (state : PeerState) → Sent (if_any place.node node (resend place epoch issued node state))
   again_from epoch issued node peer.Unknown = ((refl, refl), tt)
   again_from epoch issued node (peer.Reported head) = tt
   again_from epoch issued node (peer.Feeding known object version body) = ((refl, refl), tt)
@@ -291,9 +291,9 @@ module _ (place : Place) where
       flat_mapped place.node place.file (λ p. if_any place.node p.node (gather_unknown place t.epoch p.node p.state)) t.peers (λ p. unknown_from t.epoch p.node p.state)
   wakes_in_from t (progress.Fetching chosen source asked later) = ((refl, refl), tt)
   wakes_in_from t (progress.Installing chosen acked) =
-      flat_mapped place.node place.file (λ p. if_any place.node p.node (sent_again place t.epoch None p.node p.state)) t.peers (λ p. again_from t.epoch None p.node p.state)
+      flat_mapped place.node place.file (λ p. if_any place.node p.node (resend place t.epoch None p.node p.state)) t.peers (λ p. again_from t.epoch None p.node p.state)
   wakes_in_from t (progress.Active head issued) =
-      flat_mapped place.node place.file (λ p. if_any place.node p.node (sent_again place t.epoch issued p.node p.state)) t.peers (λ p. again_from t.epoch issued p.node p.state)
+      flat_mapped place.node place.file (λ p. if_any place.node p.node (resend place t.epoch issued p.node p.state)) t.peers (λ p. again_from t.epoch issued p.node p.state)
 
   wakes_under_from : (t : Option Tenure) → Sent (wakes_under place t).outs
   wakes_under_from None = tt
@@ -545,11 +545,11 @@ module _ (site : Site) where
       (record { outs = tt })
 
 asks_from : (site : Site) (s : FileState) (k : Kind) (id : OpId) (capability : Capability) (asked : Op) → Steps site s (ask_comes site s k id capability asked)
-unfolding ask_handled
+unfolding handle_ask
 asks_from site s kind.Replicated id capability asked = let_in_from site s id capability asked (refusal_of site s.kept.location capability asked)
 asks_from site s kind.Striped id capability asked =
     record {
-      outs = answer_sent site.node id.client s.kept.file (striped_handled site s.kept id capability asked).answer
+      outs = answer_sent site.node id.client s.kept.file (handle_striped site s.kept id capability asked).answer
           (striped_outcome (ActedFrom s.kept.file) site s.kept id capability asked
           (record { nothing = record { answer = tt }; tells = λ answer. record { answer = refl }; keeps = λ update keeps. record { answer = refl } })).answer;
     }

@@ -20,11 +20,11 @@ use Rattle.xt_protocol.specs.Choice.{chosen_of, difference}
 use Rattle.xt_protocol.specs.Writes.{standing}
 use Rattle.xt_protocol.specs.ReplicaRows.{gathered, fetched_from, staged, headed, updated}
 use Rattle.xt_protocol.specs.Primaries.{peer_in, with_peer, fed}
-use Rattle.xt_protocol.specs.PrimaryRows.{epoch_drawn, hears}
+use Rattle.xt_protocol.specs.PrimaryRows.{draw_epoch, hears}
 use Rattle.xt_protocol.specs.Serving.{reads, writes, wakes}
 use Rattle.xt_protocol.specs.Asks.{serves_all}
 use Rattle.xt_protocol.specs.Overdue.{expired}
-use Rattle.xt_protocol.specs.AskRows.{refusal_of, ask_handled}
+use Rattle.xt_protocol.specs.AskRows.{refusal_of, handle_ask}
 use Rattle.xt_protocol.specs.FileLeases.{read_comes, write_comes, answer_comes}
 use Rattle.xt_protocol.specs.FileSteps.{step_of_file, wake_of_file}
 use Rattle.xt_protocol.specs.OsdSteps.{file_at, with_file, each_file, step_of_osd}
@@ -32,7 +32,7 @@ use Rattle.time_line.specs.declared.line.Line.{Line}
 use Rattle.time_line.specs.declared.line.Line.TheVariants as line
 use Rattle.time_line.specs.declared.entry.Entry.{Entry}
 use Rattle.time_line.specs.declared.entry.Entry.TheVariants as entry
-use Rattle.xt_protocol.specs.StripedRows.{striped_refusal, striped_handled}
+use Rattle.xt_protocol.specs.StripedRows.{striped_refusal, handle_striped}
 use Rattle.xt_protocol.specs.PlainRows.{plain_step}
 use Rattle.client_rows.specs.Again.{again_of_client}
 use Rattle.client_rows.specs.Clients.{outcome_in, call_of_client, step_of_client}
@@ -74,7 +74,7 @@ room_for count = record {
 
 -- the world after these lines
 unfoldable pub world_in : Room → List Line → World
-unfolding tags digests run_of after refusal first_stranger least_where done steps next_step first_step least_pending event_comes node_in with_node file_in outcome_in called called_again stepped again_of_client call_of_client step_of_client step_of_mrc step_of_dir plain_step striped_refusal striped_handled step_of_osd step_of_file wake_of_file expired ask_handled refusal_of read_comes write_comes answer_comes serves_all epoch_drawn hears reads writes wakes peer_in with_peer fed chosen_of difference gathered fetched_from staged headed updated standing file_at with_file each_file body_kept fold_of logged_of row_in with_row with_held keep_of osd_without rewritten
+unfolding tags digests run_of after refusal first_stranger least_where done steps next_step first_step least_pending event_comes node_in with_node file_in outcome_in called called_again stepped again_of_client call_of_client step_of_client step_of_mrc step_of_dir plain_step striped_refusal handle_striped step_of_osd step_of_file wake_of_file expired handle_ask refusal_of read_comes write_comes answer_comes serves_all draw_epoch hears reads writes wakes peer_in with_peer fed chosen_of difference gathered fetched_from staged headed updated standing file_at with_file each_file body_kept fold_of logged_of row_in with_row with_held keep_of osd_without rewritten
 world_in room lines = run_of room lines
 
 -- the trace of these lines

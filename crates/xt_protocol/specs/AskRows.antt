@@ -100,8 +100,8 @@ abbrev pub ask_waits : FileState → WaitingAsk → FileStep
 ask_waits s ask = nothing (record s { asks = waits s.asks ask })
 
 -- read served, or the rows for writes; a write that meets an issued one waits
-abbrev pub ask_served : Site → FileState → WaitingAsk → FileStep
-ask_served site s ask =
+abbrev pub serve_ask : Site → FileState → WaitingAsk → FileStep
+serve_ask site s ask =
     serves_to s (serves (ground_of site s) (record { primary = s.primary; asks = s.asks; turned = quiet }) ask (waits s.asks ask))
 
 -- a Read of the round's ballot to each of these
@@ -128,7 +128,7 @@ ask_without_lease site s p ask None = round_for site s p ask
 
 -- by the lease: served while active; else it waits for the primary or the round; else it is sent elsewhere, or a round starts
 abbrev pub ask_under : Site → FileState → LeaseState → WaitingAsk → FileStep
-ask_under site s (held h) ask = if is_active s.primary.tenure then ask_served site s ask else ask_waits s ask
+ask_under site s (held h) ask = if is_active s.primary.tenure then serve_ask site s ask else ask_waits s ask
 ask_under site s (asking r) ask = ask_waits s ask
 ask_under site s (writing r) ask = ask_waits s ask
 ask_under site s (free p) ask = ask_without_lease site s p ask (elsewhere site s.acceptor.accepted)
@@ -150,5 +150,5 @@ ask_let_in site s id capability asked None =
     (λ state. ask_rows site state (waiting_ask site id capability.epoch asked))
 
 -- An ask on a replicated file.
-unfoldable pub ask_handled : Site → FileState → OpId → Capability → Op → FileStep
-ask_handled site s id capability asked = ask_let_in site s id capability asked (refusal_of site s.kept.location capability asked)
+unfoldable pub handle_ask : Site → FileState → OpId → Capability → Op → FileStep
+handle_ask site s id capability asked = ask_let_in site s id capability asked (refusal_of site s.kept.location capability asked)

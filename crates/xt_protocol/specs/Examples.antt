@@ -34,12 +34,12 @@ use Rattle.xt_protocol.specs.Choice.{chosen_of, difference}
 use Rattle.xt_protocol.specs.Writes.{standing}
 use Rattle.xt_protocol.specs.ReplicaRows.{gathered, fetched_from, staged, headed, updated, after_record, only}
 use Rattle.xt_protocol.specs.Primaries.{peer_in, with_peer, fed}
-use Rattle.xt_protocol.specs.PrimaryRows.{epoch_drawn, hears}
+use Rattle.xt_protocol.specs.PrimaryRows.{draw_epoch, hears}
 use Rattle.xt_protocol.specs.Serving.{reads, writes, wakes}
 use Rattle.xt_protocol.specs.Asks.{serves_all}
 use Rattle.xt_protocol.specs.Overdue.{expired}
-use Rattle.xt_protocol.specs.AskRows.{refusal_of, ask_handled}
-use Rattle.xt_protocol.specs.StripedRows.{striped_handled}
+use Rattle.xt_protocol.specs.AskRows.{refusal_of, handle_ask}
+use Rattle.xt_protocol.specs.StripedRows.{handle_striped}
 use Rattle.xt_protocol.specs.FileLeases.{read_comes, write_comes, answer_comes}
 use Rattle.xt_protocol.specs.FileSteps.{step_of_file, wake_of_file}
 use Rattle.xt_protocol.specs.OsdSteps.{OsdState, Outside, osd_from, file_at, with_file, each_file, step_of_osd}
@@ -105,7 +105,7 @@ after_step c n osd turned =
 
 -- A node handles these events and then its own messages, first in first out, as many as this at most.
 unfoldable pub handles : ℕ → Cluster → ℕ → List Event → Cluster
-unfolding step_of_osd step_of_file wake_of_file expired ask_handled refusal_of read_comes write_comes answer_comes serves_all epoch_drawn hears reads writes wakes peer_in with_peer fed chosen_of difference gathered fetched_from staged headed updated standing file_at with_file each_file body_kept fold_of row_in with_row with_held
+unfolding step_of_osd step_of_file wake_of_file expired handle_ask refusal_of read_comes write_comes answer_comes serves_all draw_epoch hears reads writes wakes peer_in with_peer fed chosen_of difference gathered fetched_from staged headed updated standing file_at with_file each_file body_kept fold_of row_in with_row with_held
 handles zero c id events = c
 handles (suc more) c id [] = c
 handles (suc more) c id (e ∷ es) =
@@ -174,8 +174,8 @@ abbrev pub members : Cluster → List ℕ
 members c = map (λ n. n.node.0) c.nodes
 
 -- a client's ask for the one file is sent; a truncation is asked with its epoch
-abbrev pub ask_sent : Cluster → ℕ → ℕ → ℕ → ℕ → Op → Cluster
-ask_sent c client target number epoch asked =
+abbrev pub send_ask : Cluster → ℕ → ℕ → ℕ → ℕ → Op → Cluster
+send_ask c client target number epoch asked =
     record c {
       sent = c.sent ++ (record { from = node client; to = node target; list = 1; payload = payload.Ask number (capability_on (members c) epoch) asked }, true) ∷ [];
     }
@@ -183,7 +183,7 @@ ask_sent c client target number epoch asked =
 abbrev pub after_deed : Cluster → Deed → Cluster
 unfolding settled handles
 after_deed c (ticks count) = record c { clock = c.clock + count }
-after_deed c (asks client target number asked) = ask_sent c client target number 0 asked
+after_deed c (asks client target number asked) = send_ask c client target number 0 asked
 after_deed c (delivers number) = delivered c number
 after_deed c (drops number) = record c { sent = done_with c.sent number }
 after_deed c (wakes_up id) = handles 100 c id (event.Wake ∷ [])
@@ -410,7 +410,7 @@ striped_capability =
 
 abbrev pub striped_ask : ℕ → List Record → ℕ → Op → Acted
 striped_ask id records number asked =
-    striped_handled
+    handle_striped
     (record { node = node id; times = times; now = 0; sealed = λ capability. true; body = by_records records })
     (row_in (fold_of records).files file_1) (id_of 10 number) striped_capability asked
 

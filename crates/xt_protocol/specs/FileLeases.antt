@@ -18,7 +18,7 @@ use Rattle.xt_protocol.specs.LeaseRows as lease
 use Rattle.xt_protocol.specs.declared.states.Tenure.{Tenure}
 use Rattle.xt_protocol.specs.Turns.{shows, sends, message}
 use Rattle.xt_protocol.specs.Primaries.{Led}
-use Rattle.xt_protocol.specs.PrimaryRows.{epoch_drawn}
+use Rattle.xt_protocol.specs.PrimaryRows.{draw_epoch}
 use Rattle.xt_protocol.specs.Asks.{tells_each}
 use Rattle.xt_protocol.specs.FileStates.{FileState, Site, FileStep, nothing, steps_to, and_then, members_of, ground_of}
 
@@ -73,15 +73,15 @@ writes_to site s ballot lease targets =
     sends (map (λ target. message site.node target.0 (payload.Write s.kept.file ballot target.1 lease)) targets)
 
 -- the asks that wait get this answer
-abbrev pub waiting_told : Site → FileState → Reply → FileStep
-waiting_told site s answer =
+abbrev pub answer_waiting : Site → FileState → Reply → FileStep
+answer_waiting site s answer =
     steps_to (record s { asks = record s.asks { waiting = [] } }) (sends (tells_each site.node s.kept.file s.asks.waiting answer))
 
 -- live report: the asks are sent to its holder; where that is an earlier boot of this node there is no lease
 abbrev pub live_lease : Site → FileState → Lease → FileStep
 live_lease site s lease =
-    if lease.node.0 == site.node.0 then waiting_told site s (reply.NoLease s.last_end)
-    else waiting_told site s (reply.Elsewhere lease.node lease.end)
+    if lease.node.0 == site.node.0 then answer_waiting site s (reply.NoLease s.last_end)
+    else answer_waiting site s (reply.Elsewhere lease.node lease.end)
 
 -- a row of the primary that makes no difference to the asks
 abbrev pub leads_to : FileState → Led → FileStep
@@ -90,7 +90,7 @@ leads_to s led = steps_to (record s { primary = led.primary }) led.turned
 -- an idle primary draws an epoch when the lease is held
 abbrev pub led_on : Site → FileState → Option Tenure → FileStep
 led_on site s (Some t) = nothing s
-led_on site s None = leads_to s (epoch_drawn (ground_of site s).place s.primary.learnt s.kept.head (members_of s.kept.location))
+led_on site s None = leads_to s (draw_epoch (ground_of site s).place s.primary.learnt s.kept.head (members_of s.kept.location))
 
 -- lease won, or renewed: it is marked, and an idle primary draws its epoch
 abbrev pub lease_held : Site → FileState → ℕ → FileStep
@@ -103,7 +103,7 @@ lease_news site s lease.nothing = nothing s
 lease_news site s (sends_write ballot lease targets) = steps_to s (writes_to site s ballot lease targets)
 lease_news site s (holds end) = lease_held site (record s { last_end = end }) end
 lease_news site s (finds lease) = live_lease site s lease
-lease_news site s ends = waiting_told site s (reply.NoLease s.last_end)
+lease_news site s ends = answer_waiting site s (reply.NoLease s.last_end)
 
 -- An answer to a round comes.
 unfoldable pub answer_comes : Site → FileState → NodeId → Payload → FileStep

@@ -18,8 +18,8 @@ use Rattle.xt_protocol.specs.Serving.{wakes}
 use Rattle.xt_protocol.specs.Asks.{asks_follow}
 use Rattle.xt_protocol.specs.FileStates.{FileState, Site, FileStep, nothing, steps_to, and_then, serves_to, members_of, ground_of}
 use Rattle.xt_protocol.specs.Overdue.{expired}
-use Rattle.xt_protocol.specs.AskRows.{ask_handled, reads_of}
-use Rattle.xt_protocol.specs.StripedRows.{striped_handled}
+use Rattle.xt_protocol.specs.AskRows.{handle_ask, reads_of}
+use Rattle.xt_protocol.specs.StripedRows.{handle_striped}
 use Rattle.xt_protocol.specs.FileLeases.{read_comes, write_comes, answer_comes}
 
 -- a row of the replica: its record, and its answer to whoever asked
@@ -28,9 +28,9 @@ replica_acts site s from acted = steps_to s (record { rec = acted.rec; outs = if
 
 -- an ask by the kind of its file
 abbrev pub ask_comes : Site → FileState → Kind → OpId → Capability → Op → FileStep
-ask_comes site s kind.Replicated id capability asked = ask_handled site s id capability asked
+ask_comes site s kind.Replicated id capability asked = handle_ask site s id capability asked
 ask_comes site s kind.Striped id capability asked =
-    replica_acts site s id.client (striped_handled site s.kept id capability asked)
+    replica_acts site s id.client (handle_striped site s.kept id capability asked)
 
 -- a message to the primary: it counts only while the lease is held
 abbrev pub primary_hears : Site → FileState → LeaseState → NodeId → Payload → FileStep

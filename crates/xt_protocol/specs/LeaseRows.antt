@@ -303,38 +303,38 @@ news_of_renewal (Some r) no_news = nothing
 news_of_renewal (Some r) (renewal_write targets) = sends_write r.ballot (lease_of r) targets
 news_of_renewal (Some r) (renewed end) = holds end
 
-abbrev pub asking_answered : Round → ℕ → NodeId → Payload → LeaseStep
-asking_answered r now from (payload.Promise file ballot boot report) =
+abbrev pub answer_asking : Round → ℕ → NodeId → Payload → LeaseStep
+answer_asking r now from (payload.Promise file ballot boot report) =
     if same_ballot ballot r.ballot
     then step_of_asking r.ballot (lease_of r) (asking_promised r now from boot report)
     else record { state = asking r; news = nothing }
-asking_answered r now from (payload.Outrun file ballot seen) =
+answer_asking r now from (payload.Outrun file ballot seen) =
     if same_ballot ballot r.ballot
     then record { state = free (outrun_learnt (round_over r) seen); news = ends }
     else record { state = asking r; news = nothing }
-asking_answered r now from _ = record { state = asking r; news = nothing }
+answer_asking r now from _ = record { state = asking r; news = nothing }
 
-abbrev pub writing_answered : Round → ℕ → NodeId → Payload → LeaseStep
-writing_answered r now from (payload.Promise file ballot boot report) =
+abbrev pub answer_writing : Round → ℕ → NodeId → Payload → LeaseStep
+answer_writing r now from (payload.Promise file ballot boot report) =
     let promised = on_promise r now from boot report in
     if same_ballot ballot r.ballot
     then record { state = writing promised.round; news = news_of_targets r.ballot (lease_of r) (targets_of promised.took) }
     else record { state = writing r; news = nothing }
-writing_answered r now from (payload.Accepted file ballot boot) =
+answer_writing r now from (payload.Accepted file ballot boot) =
     if same_ballot ballot r.ballot
     then step_of_written (writing_accepted r now from boot)
     else record { state = writing r; news = nothing }
-writing_answered r now from (payload.Outrun file ballot seen) =
+answer_writing r now from (payload.Outrun file ballot seen) =
     if same_ballot ballot r.ballot
     then record { state = free (outrun_learnt (round_over r) seen); news = ends }
     else record { state = writing r; news = nothing }
-writing_answered r now from _ = record { state = writing r; news = nothing }
+answer_writing r now from _ = record { state = writing r; news = nothing }
 
 -- an answer of this node to the running round, if there is one; an answer to another round does nothing
 abbrev pub on_answer : LeaseState → ℕ → NodeId → Payload → LeaseStep
 on_answer (free p) now from answer = record { state = free p; news = nothing }
-on_answer (asking r) now from answer = asking_answered r now from answer
-on_answer (writing r) now from answer = writing_answered r now from answer
+on_answer (asking r) now from answer = answer_asking r now from answer
+on_answer (writing r) now from answer = answer_writing r now from answer
 on_answer (held h) now from answer =
     let renewing = on_renewal h now from answer in
     record { state = held renewing.held; news = news_of_renewal h.renewal renewing.renewal }

@@ -96,9 +96,9 @@ file_concerned (payload.Reply number file answer) = Some file
 file_concerned _ = None
 
 -- a message: the step of the file that it concerns
-abbrev pub message_handled : Site → Awake → List FileState → Msg → Option FileId → FilesStep
-message_handled site awake files msg None = record { files = files; turned = quiet }
-message_handled site awake files msg (Some file) =
+abbrev pub handle_message : Site → Awake → List FileState → Msg → Option FileId → FilesStep
+handle_message site awake files msg None = record { files = files; turned = quiet }
+handle_message site awake files msg (Some file) =
     let step = step_of_file site (file_at awake files file) msg.from msg.payload in
     record { files = with_file files step.state; turned = step.turned }
 
@@ -113,17 +113,17 @@ woken site files =
     let woke = each_file (wake_of_file site) settled.files in
     record { files = woke.files; turned = joined (sends (asks_dir site.node ∷ [])) (joined settled.turned woke.turned) }
 
-abbrev pub event_handled : Site → Awake → List FileState → Event → FilesStep
-event_handled site awake files (event.Deliver msg) = message_handled site awake files msg (file_concerned msg.payload)
-event_handled site awake files event.Wake = woken site files
-event_handled site awake files (event.Call call) = record { files = files; turned = quiet }
+abbrev pub handle_event : Site → Awake → List FileState → Event → FilesStep
+handle_event site awake files (event.Deliver msg) = handle_message site awake files msg (file_concerned msg.payload)
+handle_event site awake files event.Wake = woken site files
+handle_event site awake files (event.Call call) = record { files = files; turned = quiet }
 
 -- in silence nothing comes of an event
 abbrev pub handled_awake : Outside → OsdState → ℕ → Event → Option Awake → OsdStep
 handled_awake outside osd now happens None = record { osd = osd; turned = quiet }
 handled_awake outside osd now happens (Some awake) =
     let site : Site = record { node = awake.node; times = awake.times; now = now; sealed = outside.sealed; body = outside.body } in
-    let step = event_handled site awake osd.files happens in
+    let step = handle_event site awake osd.files happens in
     record { osd = record { started = osd.started; last = now; files = step.files }; turned = step.turned }
 
 -- The step of an OSD on an event, at the greater of the clock's reading and the clock that it used last.

@@ -69,8 +69,8 @@ plain_refusal members node asked =
 
 -- Read served: the member's count and mark, and the object's bytes from a place on, filled with zeros to so many. How far the
 -- file goes no member knows: the client cuts what it reads.
-abbrev pub read_served : (ℕ → Stamp → List ℕ) → FileHead → ℕ → ℕ → ℕ → Reply
-read_served body head object at len =
+abbrev pub serve_read : (ℕ → Stamp → List ℕ) → FileHead → ℕ → ℕ → ℕ → Reply
+serve_read body head object at len =
     reply.Ok head.stamp.count head.mark (cut_or_filled (drop at (present_body body (version_of head.versions object) object)) len)
 
 -- ---- writes and truncations
@@ -98,17 +98,17 @@ write_stands p stripe body id epoch asked (turned_away answer) = only answer
 write_stands p stripe body id epoch asked fresh = write_kept p (next_update stripe body p.head id epoch asked)
 
 -- a striped file has as many objects for each member as a replicated one has in all
-abbrev pub write_served : PlainFile → (ℕ → Stamp → List ℕ) → OpId → ℕ → Location → Op → PlainActed
-write_served p body id epoch location asked =
+abbrev pub serve_plain_write : PlainFile → (ℕ → Stamp → List ℕ) → OpId → ℕ → Location → Op → PlainActed
+serve_plain_write p body id epoch location asked =
     write_stands p location.stripe body id epoch asked
     (standing (OBJECTS * length location.members) location.stripe p.head id epoch asked)
 
 -- ---- the step
 
 abbrev pub served : PlainFile → (ℕ → Stamp → List ℕ) → OpId → ℕ → Location → Op → PlainActed
-served p body id epoch location (op.Read object at len) = only (read_served body p.head object at len)
-served p body id epoch location (op.Write object at bytes) = write_served p body id epoch location (op.Write object at bytes)
-served p body id epoch location (op.Truncate size) = write_served p body id epoch location (op.Truncate size)
+served p body id epoch location (op.Read object at len) = only (serve_read body p.head object at len)
+served p body id epoch location (op.Write object at bytes) = serve_plain_write p body id epoch location (op.Write object at bytes)
+served p body id epoch location (op.Truncate size) = serve_plain_write p body id epoch location (op.Truncate size)
 
 abbrev pub refused_or : Option Denial → PlainActed → PlainActed
 refused_or (Some why) row = only (reply.Denied why)

@@ -45,8 +45,8 @@ abbrev pub epoch_above : Place → ℕ → FileHead → Epoch
 epoch_above place learnt own = record { number = 1 + max own.promised.number learnt; node = place.node }
 
 -- Epoch drawn: the own promise is kept, and all are asked. Without a number left the primary is idle.
-unfoldable pub epoch_drawn : Place → ℕ → FileHead → List NodeId → Led
-epoch_drawn place learnt own members =
+unfoldable pub draw_epoch : Place → ℕ → FileHead → List NodeId → Led
+draw_epoch place learnt own members =
     let epoch = epoch_above place learnt own in
     if nat_lt epoch.number COUNTS then
     goes_on learnt (record { epoch = epoch; peers = map unknown_peer members; progress = progress.Gathering })
@@ -56,19 +56,19 @@ epoch_drawn place learnt own members =
 -- The chosen head is installed.
 
 -- a peer that has reported is fed; the own node gets the head itself
-abbrev pub peer_fed : Ground → FileHead → NodeId → PeerState → PeerState
-peer_fed g target node (peer.Reported head) =
+abbrev pub feed_peer : Ground → FileHead → NodeId → PeerState → PeerState
+feed_peer g target node (peer.Reported head) =
     if node.0 == g.place.node.0 then peer.Reported head else fed g.body target (known_of_report head)
-peer_fed g target node state = state
+feed_peer g target node state = state
 
-abbrev pub peers_fed : Ground → FileHead → List Peer → List Peer
-peers_fed g target peers = map (λ p. record { node = p.node; state = peer_fed g target p.node p.state }) peers
+abbrev pub feed_peers : Ground → FileHead → List Peer → List Peer
+feed_peers g target peers = map (λ p. record { node = p.node; state = feed_peer g target p.node p.state }) peers
 
 -- Installed: the head goes to the node itself, and each other peer that has reported is fed, in list order.
 abbrev pub installs : Ground → ℕ → Tenure → FileHead → Led
 installs g learnt t chosen =
     let target = target_of g.own t.epoch chosen in
-    let peers = peers_fed g target t.peers in
+    let peers = feed_peers g target t.peers in
     goes_on learnt (record { epoch = t.epoch; peers = peers; progress = progress.Installing chosen [] })
     (sends (message g.place.node g.place.node (payload.Head g.place.file t.epoch target) ∷ last_to_each g.place t.epoch peers))
 
@@ -80,15 +80,15 @@ fetches g learnt t chosen source (v ∷ later) =
     (sends (message g.place.node source (payload.Fetch g.place.file t.epoch v.object v.version) ∷ []))
 
 -- Head chosen: the own one is installed; of another one the bodies are fetched that are wanted.
-abbrev pub head_chosen : Ground → ℕ → Tenure → NodeId × FileHead → Led
-head_chosen g learnt t best =
+abbrev pub choose_head : Ground → ℕ → Tenure → NodeId × FileHead → Led
+choose_head g learnt t best =
     if best.0.0 == g.place.node.0 then installs g learnt t best.1
     else fetches g learnt t best.1 best.0 (difference (known_of_own g.held) best.1.versions)
 
 -- among the reports; there is at least the one that was just counted
 abbrev pub chooses : Ground → ℕ → Tenure → List (NodeId × FileHead) → Led
 chooses g learnt t [] = unmoved learnt t
-chooses g learnt t (first ∷ others) = head_chosen g learnt t (chosen_of g.place.node first others)
+chooses g learnt t (first ∷ others) = choose_head g learnt t (chosen_of g.place.node first others)
 
 -- Statuses.
 
@@ -102,26 +102,26 @@ abbrev pub with_state : Tenure → NodeId → PeerState → Tenure
 with_state t node state = record t { peers = with_peer t.peers node state }
 
 -- a peer gets this state, and the message that leads to it
-abbrev pub peer_sent : Ground → ℕ → Tenure → NodeId → PeerState → Led
-peer_sent g learnt t node state =
+abbrev pub send_to_peer : Ground → ℕ → Tenure → NodeId → PeerState → Led
+send_to_peer g learnt t node state =
     goes_on learnt (with_state t node state) (sends (if_any g.place.node node (last_sent g.place.file t.epoch state)))
 
 -- a peer is fed on: these versions are known of it
 abbrev pub feeds : Ground → ℕ → Tenure → NodeId → FileHead → List ObjectVersion → Led
-feeds g learnt t node target known = peer_sent g learnt t node (fed g.body target known)
+feeds g learnt t node target known = send_to_peer g learnt t node (fed g.body target known)
 
 -- a status of an unknown peer: counted, kept until the head is installed, or late, and then the peer is fed
-abbrev pub status_told : Ground → ℕ → Tenure → Progress → NodeId → FileHead → Led
-status_told g learnt t progress.Gathering from head = status_counted g learnt (with_state t from (peer.Reported head))
-status_told g learnt t (progress.Fetching chosen source asked later) from head = unmoved learnt (with_state t from (peer.Reported head))
-status_told g learnt t (progress.Installing chosen acked) from head =
+abbrev pub take_status : Ground → ℕ → Tenure → Progress → NodeId → FileHead → Led
+take_status g learnt t progress.Gathering from head = status_counted g learnt (with_state t from (peer.Reported head))
+take_status g learnt t (progress.Fetching chosen source asked later) from head = unmoved learnt (with_state t from (peer.Reported head))
+take_status g learnt t (progress.Installing chosen acked) from head =
     feeds g learnt t from (target_of g.own t.epoch chosen) (known_of_report head)
-status_told g learnt t (progress.Active committed issued) from head = feeds g learnt t from g.own (known_of_report head)
+take_status g learnt t (progress.Active committed issued) from head = feeds g learnt t from g.own (known_of_report head)
 
 -- a second status does nothing
 abbrev pub hears_status : Ground → ℕ → Tenure → NodeId → PeerState → FileHead → Led
 hears_status g learnt t from state head =
-    if is_unknown state then status_told g learnt t t.progress from head else unmoved learnt t
+    if is_unknown state then take_status g learnt t t.progress from head else unmoved learnt t
 
 -- Fetching.
 
@@ -142,8 +142,8 @@ abbrev pub after_keeping : Option Record → Led → Led
 after_keeping rec led = record { primary = led.primary; turned = record led.turned { rec = rec } }
 
 -- Body fetched: it is kept unless it is held, and the next one is asked for. The head may be fed with this very body.
-abbrev pub body_fetched : Ground → ℕ → Tenure → FileHead → NodeId → List ObjectVersion → ℕ → Stamp → List ℕ → Led
-body_fetched g learnt t chosen source later object version bytes =
+abbrev pub take_body : Ground → ℕ → Tenure → FileHead → NodeId → List ObjectVersion → ℕ → Stamp → List ℕ → Led
+take_body g learnt t chosen source later object version bytes =
     let rec = stage_record g.place.file g.held object version bytes in
     after_keeping rec (fetches (record g { body = body_beyond g.place.file rec g.body }) learnt t chosen source later)
 
@@ -151,7 +151,7 @@ body_fetched g learnt t chosen source later object version bytes =
 abbrev pub hears_object : Ground → ℕ → Tenure → Progress → NodeId → ℕ → Stamp → List ℕ → Led
 hears_object g learnt t (progress.Fetching chosen source asked later) from object version bytes =
     if from.0 == source.0 && is_version asked (body_of object version)
-    then body_fetched g learnt t chosen source later object version bytes
+    then take_body g learnt t chosen source later object version bytes
     else unmoved learnt t
 hears_object g learnt t _ from object version bytes = unmoved learnt t
 
@@ -177,7 +177,7 @@ body_missed g learnt t _ from _ v = unmoved learnt t
 -- Fetch missed: the source no longer has a body of the chosen head, and a new epoch is drawn.
 abbrev pub hears_missing : Ground → ℕ → Tenure → Progress → NodeId → PeerState → ObjectVersion → Led
 hears_missing g learnt t (progress.Fetching chosen source asked later) from state v =
-    if from.0 == source.0 then epoch_drawn g.place learnt g.own (nodes_of t.peers) else unmoved learnt t
+    if from.0 == source.0 then draw_epoch g.place learnt g.own (nodes_of t.peers) else unmoved learnt t
 hears_missing g learnt t p from state v = body_missed g learnt t (target_in g.own t.epoch p) from state v
 
 -- Acknowledgements.
@@ -194,8 +194,8 @@ activated g learnt t =
     (shows (mark.Active g.place.file.number g.own.stamp.count g.own.last))
 
 -- peer acknowledged, while the head is installed
-abbrev pub head_acked : Ground → ℕ → Tenure → FileHead → List NodeId → Led
-head_acked g learnt t chosen acked =
+abbrev pub ack_head : Ground → ℕ → Tenure → FileHead → List NodeId → Led
+ack_head g learnt t chosen acked =
     if carries g.place t.peers acked then activated g learnt t
     else unmoved learnt (record t { progress = progress.Installing chosen acked })
 
@@ -208,8 +208,8 @@ committed g learnt t update =
     (answers g.place.node file update.id update.stamp.count update.mark []))
 
 -- an acknowledgement of the issued update
-abbrev pub update_acked : Ground → ℕ → Tenure → FileHead → Update → List NodeId → Led
-update_acked g learnt t head update acked =
+abbrev pub ack_update : Ground → ℕ → Tenure → FileHead → Update → List NodeId → Led
+ack_update g learnt t head update acked =
     if carries g.place t.peers acked then committed g learnt t update
     else unmoved learnt (record t { progress = progress.Active head (Some (record { update = update; acked = acked })) })
 
@@ -217,7 +217,7 @@ update_acked g learnt t head update acked =
 abbrev pub acked_below : Ground → ℕ → Tenure → FileHead → NodeId → Stamp → Bool → Option IssuedUpdate → Led
 acked_below g learnt t head from stamp newly None = unmoved learnt t
 acked_below g learnt t head from stamp newly (Some issued) =
-    if not (is_below stamp issued.update.stamp) then update_acked g learnt t head issued.update (with_node issued.acked from)
+    if not (is_below stamp issued.update.stamp) then ack_update g learnt t head issued.update (with_node issued.acked from)
     else if newly
     then goes_on learnt t (sends (message g.place.node from (payload.Update g.place.file issued.update) ∷ []))
     else unmoved learnt t
@@ -225,7 +225,7 @@ acked_below g learnt t head from stamp newly (Some issued) =
 -- Peer acknowledged.
 abbrev pub hears_ack : Ground → ℕ → Tenure → Progress → NodeId → Bool → Stamp → Led
 hears_ack g learnt t (progress.Installing chosen acked) from newly stamp =
-    if newly then head_acked g learnt (with_state t from peer.Current) chosen (with_node acked from) else unmoved learnt t
+    if newly then ack_head g learnt (with_state t from peer.Current) chosen (with_node acked from) else unmoved learnt t
 hears_ack g learnt t (progress.Active head issued) from newly stamp =
     acked_below g learnt (if newly then with_state t from peer.Current else t) head from stamp newly issued
 hears_ack g learnt t _ from newly stamp = unmoved learnt t
@@ -247,21 +247,21 @@ peer_behind g learnt t from state =
 abbrev pub outpromised : Ground → ℕ → Tenure → Epoch → Led
 outpromised g learnt t promised =
     if is_earlier t.epoch promised
-    then epoch_drawn g.place (max learnt promised.number) g.own (nodes_of t.peers)
+    then draw_epoch g.place (max learnt promised.number) g.own (nodes_of t.peers)
     else unmoved learnt t
 
 -- Messages to a primary.
 
 -- the epoch of a message to a primary
-abbrev pub epoch_told : Payload → Option Epoch
-epoch_told (payload.Status file epoch head) = Some epoch
-epoch_told (payload.Object file epoch object version bytes) = Some epoch
-epoch_told (payload.Staged file epoch object version) = Some epoch
-epoch_told (payload.Missing file epoch object version) = Some epoch
-epoch_told (payload.Ack file stamp) = Some stamp.epoch
-epoch_told (payload.Behind file epoch stamp) = Some epoch
-epoch_told (payload.Refused file epoch promised) = Some epoch
-epoch_told _ = None
+abbrev pub message_epoch : Payload → Option Epoch
+message_epoch (payload.Status file epoch head) = Some epoch
+message_epoch (payload.Object file epoch object version bytes) = Some epoch
+message_epoch (payload.Staged file epoch object version) = Some epoch
+message_epoch (payload.Missing file epoch object version) = Some epoch
+message_epoch (payload.Ack file stamp) = Some stamp.epoch
+message_epoch (payload.Behind file epoch stamp) = Some epoch
+message_epoch (payload.Refused file epoch promised) = Some epoch
+message_epoch _ = None
 
 -- a message of the primary's epoch, from a peer in this state
 abbrev pub hears_peer : Ground → ℕ → Tenure → NodeId → PeerState → Payload → Led
@@ -287,7 +287,7 @@ hears_epoch g learnt t from (Some epoch) content =
 
 abbrev pub hears_in : Ground → ℕ → Option Tenure → NodeId → Payload → Led
 hears_in g learnt None from content = record { primary = record { learnt = learnt; tenure = None }; turned = quiet }
-hears_in g learnt (Some t) from content = hears_epoch g learnt t from (epoch_told content) content
+hears_in g learnt (Some t) from content = hears_epoch g learnt t from (message_epoch content) content
 
 -- A message to a primary, in its turn.
 unfoldable pub hears : Ground → PrimaryState → NodeId → Payload → Led

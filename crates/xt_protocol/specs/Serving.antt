@@ -106,10 +106,10 @@ unacked file node None = None
 unacked file node (Some issued) = if has_node issued.acked node.0 then None else Some (payload.Update file issued.update)
 
 -- what a peer is sent again once a head was chosen
-abbrev pub sent_again : Place → Epoch → Option IssuedUpdate → NodeId → PeerState → Option Payload
-sent_again place epoch issued node peer.Unknown = Some (payload.Gather place.file epoch)
-sent_again place epoch issued node peer.Current = unacked place.file node issued
-sent_again place epoch issued node state = last_sent place.file epoch state
+abbrev pub resend : Place → Epoch → Option IssuedUpdate → NodeId → PeerState → Option Payload
+resend place epoch issued node peer.Unknown = Some (payload.Gather place.file epoch)
+resend place epoch issued node peer.Current = unacked place.file node issued
+resend place epoch issued node state = last_sent place.file epoch state
 
 -- to each peer what this gives, in list order
 abbrev pub to_peers : Place → List Peer → (NodeId → PeerState → Option Payload) → Turned
@@ -119,8 +119,8 @@ abbrev pub wakes_in : Place → Tenure → Progress → Turned
 wakes_in place t progress.Gathering = to_peers place t.peers (gather_unknown place t.epoch)
 wakes_in place t (progress.Fetching chosen source asked later) =
     sends (message place.node source (payload.Fetch place.file t.epoch asked.object asked.version) ∷ [])
-wakes_in place t (progress.Installing chosen acked) = to_peers place t.peers (sent_again place t.epoch None)
-wakes_in place t (progress.Active head issued) = to_peers place t.peers (sent_again place t.epoch issued)
+wakes_in place t (progress.Installing chosen acked) = to_peers place t.peers (resend place t.epoch None)
+wakes_in place t (progress.Active head issued) = to_peers place t.peers (resend place t.epoch issued)
 
 abbrev pub wakes_under : Place → Option Tenure → Turned
 wakes_under place None = quiet

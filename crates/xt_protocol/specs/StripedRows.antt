@@ -58,7 +58,7 @@ to_client file id acted = record { rec = acted.rec; answer = reply_payload file 
 
 -- An ask on a striped file, by what is kept of the file: at most an update and a reply to the client. It takes no lease, stores no
 -- list and makes no mark.
-unfoldable pub striped_handled : Site → FileRow → OpId → Capability → Op → Acted
-striped_handled site row id capability asked =
+unfoldable pub handle_striped : Site → FileRow → OpId → Capability → Op → Acted
+handle_striped site row id capability asked =
     to_client row.file id
     (member_acts site row id capability asked (striped_refusal site row.location capability asked))

@@ -3,7 +3,7 @@ use Rattle.xt_protocol.specs.Examples.{after_deeds}
 use Rattle.xt_protocol.specs.Folds.{body_kept, fold_of, row_in, with_row}
 use Rattle.xt_protocol.specs.PlainRows.{plain_step}
 use Rattle.xt_protocol.specs.ReplicaRows.{gathered, headed}
-use Rattle.xt_protocol.specs.StripedRows.{striped_handled, striped_refusal}
+use Rattle.xt_protocol.specs.StripedRows.{handle_striped, striped_refusal}
 use Rattle.xt_protocol.specs.Writes.{standing}
 use Rattle.xt_protocol.proofs.examples.Goals as goal
 
@@ -76,13 +76,13 @@ unfolding after_deeds
 returns-clause-tested c = refl
 
 pub returns-clause-striped : goal.returns-clause-striped
-unfolding striped_handled striped_refusal plain_step standing body_kept fold_of row_in with_row
+unfolding handle_striped striped_refusal plain_step standing body_kept fold_of row_in with_row
 returns-clause-striped c = refl
 
 pub returns-clause-shown : goal.returns-clause-shown
-unfolding striped_handled striped_refusal plain_step standing body_kept fold_of row_in with_row
+unfolding handle_striped striped_refusal plain_step standing body_kept fold_of row_in with_row
 returns-clause-shown c = refl
 
 pub returns-clause-other : goal.returns-clause-other
-unfolding striped_handled striped_refusal plain_step standing body_kept fold_of row_in with_row
+unfolding handle_striped striped_refusal plain_step standing body_kept fold_of row_in with_row
 returns-clause-other c = refl

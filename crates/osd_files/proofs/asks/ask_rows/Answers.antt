@@ -1,7 +1,7 @@
 use Rattle.std.proofs.Common.{◌∙◌, ap, sym}
 use Rattle.xt_protocol.specs.LeaseRows.{LeaseState}
 use Rattle.xt_protocol.specs.SeenBodies.{body_by}
-use Rattle.xt_protocol.specs.AskRows.{ask_rows, ask_served, ask_under}
+use Rattle.xt_protocol.specs.AskRows.{ask_rows, serve_ask, ask_under}
 use Rattle.osd_files.specs.Views.{shown, site_at}
 use Rattle.osd_files.proofs.Rows.{rows_by}
 use Rattle.osd_files.proofs.Served.{free_by, new_ask, serves_under, waits_under}
@@ -26,11 +26,11 @@ returns-then-may_serve-clause-row g c =
     let old = shown c.args.file.now in
     let ask = c.args.ask in
     let body = body_by (g.B.Bodies.records c.args.bodies.now) in
-    rows_by (λ site s. ask_served site s ask) (λ site s. ask_rows site s ask) c.args.now body old.awake old.state old.state (shown c.ask_served.new.file) c.ask_served.result
+    rows_by (λ site s. serve_ask site s ask) (λ site s. ask_rows site s ask) c.args.now body old.awake old.state old.state (shown c.serve_ask.new.file) c.serve_ask.result
     (λ sealed.
     let site = site_at old.awake c.args.now sealed body in
     new_ask site old.state ask (sym c.has.ensures ∙ c.if-has.false) ∙ serves_under site old.state old.state.lease ask (sym c.may_serve.ensures ∙ c.if-may_serve.true))
-    c.ask_served.ensures.row
+    c.serve_ask.ensures.row
 
 pub returns-clause-row : goal.returns-clause-row
 returns-clause-row g c =

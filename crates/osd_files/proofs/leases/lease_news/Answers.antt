@@ -8,7 +8,7 @@ use Rattle.xt_protocol.specs.Turns.{message, sends}
 use Rattle.flease.specs.declared.news.News.TheVariants as news
 use Rattle.xt_messages.specs.declared.reply.Reply.TheVariants as reply
 use Rattle.flease.specs.declared.news.News.{News}
-use Rattle.xt_protocol.specs.FileLeases.{lease_held, live_lease, waiting_told, lease_news}
+use Rattle.xt_protocol.specs.FileLeases.{lease_held, live_lease, answer_waiting, lease_news}
 use Rattle.xt_protocol.specs.FileStates.{FileState, Site, FileStep}
 use Rattle.osd_files.specs.Answers.{news_of}
 use Rattle.osd_files.specs.Views.{shown}
@@ -38,14 +38,14 @@ returns-in-Finds c =
 pub returns-in-Ends : goal.returns-in-Ends
 returns-in-Ends c =
     let old = shown c.args.file.now in
-    let new = shown c.waiting_told.new.file in
+    let new = shown c.answer_waiting.new.file in
     let row : News → Site → FileState → FileStep = λ n site s. lease_news site s (news_of n) in
-    let none : Site → FileState → FileStep = λ site s. waiting_told site s (reply.NoLease old.state.last_end) in
-    let here : Site → FileState → FileStep = λ site s. waiting_told site s (reply.NoLease s.last_end) in
-    let P : News → Type 0 = λ n. IfOk c.waiting_told.result (λ turned. IsRow (row n) c.args.now old new turned) in
+    let none : Site → FileState → FileStep = λ site s. answer_waiting site s (reply.NoLease old.state.last_end) in
+    let here : Site → FileState → FileStep = λ site s. answer_waiting site s (reply.NoLease s.last_end) in
+    let P : News → Type 0 = λ n. IfOk c.answer_waiting.result (λ turned. IsRow (row n) c.args.now old new turned) in
     subst P (sym c.in-Ends.is)
-    (rows_from none here c.args.now old.awake old.state old.state new c.waiting_told.result (λ sealed body. refl)
-    (at_clock none c.args.now old new c.waiting_told.result c.waiting_told.ensures))
+    (rows_from none here c.args.now old.awake old.state old.state new c.answer_waiting.result (λ sealed body. refl)
+    (at_clock none c.args.now old new c.answer_waiting.result c.answer_waiting.ensures))
 
 pub returns-in-Writes : goal.returns-in-Writes
 returns-in-Writes c =

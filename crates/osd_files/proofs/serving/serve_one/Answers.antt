@@ -23,7 +23,7 @@ returns-then-is_read-clause-served g c =
     let all : (turned : Turned) → P turned → Q turned = λ turned is.
     record { rest = refl; step = λ before own held. read_waits (ground_at old records own held) (served_in old before) ask turned reads_it (is own held) }
     in
-    if_ok P Q c.read_served.result all c.read_served.ensures.turned
+    if_ok P Q c.serve_read.result all c.serve_read.ensures.turned
 
 pub returns-then-has_issued-clause-served : goal.returns-then-has_issued-clause-served
 returns-then-has_issued-clause-served g c =

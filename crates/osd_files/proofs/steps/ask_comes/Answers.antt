@@ -12,13 +12,13 @@ returns-in-Replicated-clause-row g c =
     let f = c.args.file.now in
     let capability = c.args.capability.now in
     let body = body_by (g.B.Bodies.records c.args.bodies.now) in
-    let P : Kind → Type 0 = λ k. IfOk c.ask_handled.result (λ turned. (test : Capability → Bool) → test capability ≡ c.args.sealed → IsStep (λ site s. ask_comes site s k c.args.id capability c.args.op.now) (site_at f.awake c.args.now test body) (shown f) (shown c.ask_handled.new.file) turned) in
-    subst P (sym c.in-Replicated.is) c.ask_handled.ensures.row
+    let P : Kind → Type 0 = λ k. IfOk c.handle_ask.result (λ turned. (test : Capability → Bool) → test capability ≡ c.args.sealed → IsStep (λ site s. ask_comes site s k c.args.id capability c.args.op.now) (site_at f.awake c.args.now test body) (shown f) (shown c.handle_ask.new.file) turned) in
+    subst P (sym c.in-Replicated.is) c.handle_ask.ensures.row
 
 pub returns-in-Striped-clause-row : goal.returns-in-Striped-clause-row
 returns-in-Striped-clause-row g c =
     let f = c.args.file.now in
     let capability = c.args.capability.now in
     let body = body_by (g.B.Bodies.records c.args.bodies.now) in
-    let P : Kind → Type 0 = λ k. IfOk c.striped_handled.result (λ turned. (test : Capability → Bool) → test capability ≡ c.args.sealed → IsStep (λ site s. ask_comes site s k c.args.id capability c.args.op.now) (site_at f.awake c.args.now test body) (shown f) (shown c.striped_handled.new.file) turned) in
-    subst P (sym c.in-Striped.is) c.striped_handled.ensures.row
+    let P : Kind → Type 0 = λ k. IfOk c.handle_striped.result (λ turned. (test : Capability → Bool) → test capability ≡ c.args.sealed → IsStep (λ site s. ask_comes site s k c.args.id capability c.args.op.now) (site_at f.awake c.args.now test body) (shown f) (shown c.handle_striped.new.file) turned) in
+    subst P (sym c.in-Striped.is) c.handle_striped.ensures.row

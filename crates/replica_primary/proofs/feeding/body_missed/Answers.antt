@@ -20,9 +20,9 @@ returns-clause-value g c =
     let stands = ground c.args.place.now (g.B.Bodies.records c.args.bodies.now) c.args.own.now held in
     let head = head_of c.in-Some.target in
     let last = ap (λ (peers : List Peer). is_at_head (peer_in peers from)) (sym c.as_slice.ensures) ∙ sym c.is_at_head.ensures ∙ c.if-not-is_at_head.false in
-    fed_by stands learnt t from c.peer_sent.new.tenure c.in_ok-peer_sent.field-0 c.in_ok-state.state head _
-    (set_anew stands learnt t from c.take_known-known.new.peers c.peer_sent.new.tenure peer.Unknown c.in_ok-state.state c.take_known-known.ensures.set c.peer_sent.ensures.state)
-    c.in_ok-peer_sent.ensures.sent
+    fed_by stands learnt t from c.send_to_peer.new.tenure c.in_ok-send_to_peer.field-0 c.in_ok-state.state head _
+    (set_anew stands learnt t from c.take_known-known.new.peers c.send_to_peer.new.tenure peer.Unknown c.in_ok-state.state c.take_known-known.ensures.set c.send_to_peer.ensures.state)
+    c.in_ok-send_to_peer.ensures.sent
     (c.in_ok-state.ensures.value ∙ ap (λ (known : List ObjectVersion). fed stands.body head known) c.let_go.ensures)
     ∙ known_missed stands learnt t from v head c.take_known-known.result (peer_in t.peers from) c.in-Some.ensures.head c.take_known-known.ensures.known last
 
@@ -31,5 +31,5 @@ returns-clause-sound g c =
     let own = c.args.own.now in
     let taken = c.take_known-known.new.peers in
     let P : Tenure → Type 0 = λ t. AreSound own.versions t.peers c.fed_on.new.searches in
-    subst P (sym c.peer_sent.ensures.state)
+    subst P (sym c.send_to_peer.ensures.state)
     (c.in_ok-state.ensures.sound own taken c.in-Some.ensures.own (taken_sound own.versions c.args.tenure.now.peers taken c.args.searches.now c.args.from c.take_known-known.ensures.set c.requires))

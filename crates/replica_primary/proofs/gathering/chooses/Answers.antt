@@ -1,6 +1,6 @@
 use Rattle.std.proofs.Common.{◌∙◌, ap, rules, ◌<◌, length}
 use Rattle.xt_messages.specs.declared.file.FileHead.{FileHead}
-use Rattle.xt_protocol.specs.PrimaryRows.{head_chosen}
+use Rattle.xt_protocol.specs.PrimaryRows.{choose_head}
 use Rattle.replica_primary.specs.Shown.{shown_tenure}
 use Rattle.replica_primary.specs.Written.{ground}
 use Rattle.replica_primary.proofs.Given.{if_so}
@@ -13,10 +13,10 @@ returns c =
     let reports = c.args.reports.now in
     let best = c.index-reports-choose.result in
     let some : 0 < length reports = search rules in
-    if_so _ _ c.head_chosen.result c.head_chosen.ensures
+    if_so _ _ c.choose_head.result c.choose_head.ensures
     (λ next of learnt from records own.
     let stands = ground c.args.place.now records own c.args.held.now in
     of learnt from records own
-    ∙ ap (λ (head : FileHead). head_chosen stands learnt t (best.0, head)) c.in_ok-chosen.ensures
+    ∙ ap (λ (head : FileHead). choose_head stands learnt t (best.0, head)) c.in_ok-chosen.ensures
     ∙ chooses_best stands learnt t reports best
     (best_at c.args.place.now.node reports c.choose.result best some c.choose.ensures c.index-reports-choose.is))

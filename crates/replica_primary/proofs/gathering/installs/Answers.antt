@@ -13,9 +13,9 @@ returns-clause-value g c =
     let stands = ground_beyond c.args.place.now (g.B.Bodies.records c.args.bodies.now) c.args.fetched.now c.args.own.now held in
     let target = c.in_ok-target.target in
     let installing = c.advance.new.tenure in
-    installed stands learnt c.args.tenure.now installing c.args.chosen target c.peers_fed.new.peers c.in_ok-install_sent.field-0 c.new-acked.result
-    c.advance.ensures (c.in_ok-target.ensures ∙ c.target_of.ensures.head) c.in_ok-peers_fed.ensures.value
-    (c.in_ok-install_sent.ensures
+    installed stands learnt c.args.tenure.now installing c.args.chosen target c.feed_peers.new.peers c.in_ok-send_install.field-0 c.new-acked.result
+    c.advance.ensures (c.in_ok-target.ensures ∙ c.target_of.ensures.head) c.in_ok-feed_peers.ensures.value
+    (c.in_ok-send_install.ensures
     ∙ ap (λ (peers : List Peer). sends (message stands.place.node stands.place.node (payload.Head stands.place.file installing.epoch target) ∷ last_to_each stands.place installing.epoch peers))
     c.as_slice.ensures)
     c.new-acked.ensures

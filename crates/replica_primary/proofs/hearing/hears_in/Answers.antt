@@ -1,7 +1,7 @@
 use Rattle.std.proofs.Common.{◌∙◌, List, ap, sym}
 use Rattle.xt_protocol.specs.declared.states.Peer.{Peer}
 use Rattle.xt_protocol.specs.Primaries.{peer_in}
-use Rattle.xt_protocol.specs.PrimaryRows.{epoch_told}
+use Rattle.xt_protocol.specs.PrimaryRows.{message_epoch}
 use Rattle.replica_primary.specs.Shown.{shown_tenure}
 use Rattle.replica_primary.specs.Written.{ground}
 use Rattle.replica_primary.proofs.Given.{if_so}
@@ -17,5 +17,5 @@ returns-in-Some-peer_in-clause-row c =
     let is = ap (λ (peers : List Peer). peer_in peers from) (sym c.as_slice.ensures) ∙ c.in-Some-peer_in.ensures in
     let stands = ground c.args.place.now records c.args.own.now c.args.held.now in
     of records state is
-    ∙ of_tenure stands c.args.learnt (shown_tenure c.args.tenure.now) from (epoch_told c.args.payload.now) c.in-Some.epoch state c.args.payload.now
-    (sym c.epoch_told.ensures ∙ c.in-Some.is) (sym c.is_epoch.ensures ∙ c.if-not-is_epoch.false) is)
+    ∙ of_tenure stands c.args.learnt (shown_tenure c.args.tenure.now) from (message_epoch c.args.payload.now) c.in-Some.epoch state c.args.payload.now
+    (sym c.message_epoch.ensures ∙ c.in-Some.is) (sym c.is_epoch.ensures ∙ c.if-not-is_epoch.false) is)

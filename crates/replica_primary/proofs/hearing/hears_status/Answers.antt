@@ -9,7 +9,7 @@ use Rattle.replica_primary.proofs.hearing.hears_status.Goals as goal
 
 pub returns : goal.returns
 returns c =
-    if_so _ _ c.status_told.result c.status_told.ensures
+    if_so _ _ c.take_status.result c.take_status.ensures
     (λ next of learnt records own state is.
     let from = c.args.from in
     let told = ap (λ (peers : List Peer). peer_in peers from) c.as_slice.ensures ∙ is in

@@ -1,7 +1,7 @@
 use Rattle.std.proofs.Common.{List, None, ap, refl, ◌∙◌, flat_map}
 use Rattle.xt_protocol.specs.declared.states.Peer.{Peer}
 use Rattle.xt_protocol.specs.Primaries.{if_any}
-use Rattle.xt_protocol.specs.Serving.{gather_unknown, sent_again}
+use Rattle.xt_protocol.specs.Serving.{gather_unknown, resend}
 use Rattle.xt_protocol.specs.Turns.{sends}
 use Rattle.replica_primary.proofs.Given.{if_so}
 use Rattle.replica_primary.proofs.waking.wakes_in.Goals as goal
@@ -23,7 +23,7 @@ returns-in-Installing c =
     let place = c.args.place.now in
     let epoch = c.args.tenure.now.epoch in
     of
-    ∙ ap (λ (peers : List Peer). sends (flat_map (λ p. if_any place.node p.node (sent_again place epoch None p.node p.state)) peers)) c.as_slice-peers.ensures
+    ∙ ap (λ (peers : List Peer). sends (flat_map (λ p. if_any place.node p.node (resend place epoch None p.node p.state)) peers)) c.as_slice-peers.ensures
     ∙ rw c.in-Installing.is refl)
 
 pub returns-in-Active : goal.returns-in-Active
@@ -33,5 +33,5 @@ returns-in-Active c =
     let place = c.args.place.now in
     let epoch = c.args.tenure.now.epoch in
     of
-    ∙ ap (λ (peers : List Peer). sends (flat_map (λ p. if_any place.node p.node (sent_again place epoch c.in-Active.issued p.node p.state)) peers)) c.as_slice-peers.ensures
+    ∙ ap (λ (peers : List Peer). sends (flat_map (λ p. if_any place.node p.node (resend place epoch c.in-Active.issued p.node p.state)) peers)) c.as_slice-peers.ensures
     ∙ rw c.in-Active.is refl)

@@ -2,7 +2,7 @@ use Rattle.std.proofs.Common.{◌∙◌, List, Option, ap}
 use Rattle.xt_base.specs.declared.ids.NodeId.{NodeId}
 use Rattle.xt_protocol.specs.declared.states.Tenure.{Tenure}
 use Rattle.xt_protocol.specs.Primaries.{Led}
-use Rattle.xt_protocol.specs.PrimaryRows.{epoch_drawn}
+use Rattle.xt_protocol.specs.PrimaryRows.{draw_epoch}
 use Rattle.replica_primary.specs.PrimaryViews.{PrimaryView}
 use Rattle.replica_primary.specs.Shown.{shown_state}
 use Rattle.replica_primary.proofs.InOrder.{drawn_shown, shown_led}
@@ -19,5 +19,5 @@ returns-clause-state c =
     ap of_tenure c.put.ensures
     ∙ ap (λ (led : Led). of_led (shown_led led)) c.in_ok-drawn.ensures.row
     ∙ ap of_led (drawn_shown inside.place learnt own c.as_slice.result.now)
-    ∙ ap (λ (nodes : List NodeId). of_led (epoch_drawn inside.place learnt own nodes)) c.as_slice.ensures.list
-    ∙ ap (λ (v : PrimaryView). let w : PrimaryView = record { place = v.place; state = (epoch_drawn v.place v.state.learnt own members).primary } in w) c.self.view_is
+    ∙ ap (λ (nodes : List NodeId). of_led (draw_epoch inside.place learnt own nodes)) c.as_slice.ensures.list
+    ∙ ap (λ (v : PrimaryView). let w : PrimaryView = record { place = v.place; state = (draw_epoch v.place v.state.learnt own members).primary } in w) c.self.view_is

@@ -3,7 +3,7 @@ use Rattle.xt_messages.specs.declared.file.ObjectVersion.{ObjectVersion}
 use Rattle.xt_protocol.specs.Primaries.{fed}
 use Rattle.replica_primary.specs.Moves.{ground_beyond}
 use Rattle.replica_primary.proofs.Hears.{feed_to, left_as}
-use Rattle.replica_primary.proofs.gathering.peer_fed.Goals as goal
+use Rattle.replica_primary.proofs.gathering.feed_peer.Goals as goal
 
 pub returns-then-not-is_to_feed-clause-value : goal.returns-then-not-is_to_feed-clause-value
 returns-then-not-is_to_feed-clause-value g c =

@@ -5,7 +5,7 @@ use Rattle.replica_primary.specs.Acks.{acked_by}
 use Rattle.replica_primary.specs.Written.{ground}
 use Rattle.replica_primary.proofs.Given.{if_so}
 use Rattle.replica_primary.proofs.Acks.{installing_by}
-use Rattle.replica_primary.proofs.acking.installing_acked.Goals as goal
+use Rattle.replica_primary.proofs.acking.ack_installing.Goals as goal
 
 pub returns : goal.returns
 returns c =

@@ -6,18 +6,18 @@ use Rattle.xt_protocol.specs.SeenBodies.{body_by}
 use Rattle.xt_protocol.specs.Asks.{is_read, read_answer}
 use Rattle.xt_protocol.specs.FileStates.{FileStep}
 use Rattle.xt_protocol.specs.Serving.{reads}
-use Rattle.xt_protocol.specs.AskRows.{ask_served}
+use Rattle.xt_protocol.specs.AskRows.{serve_ask}
 use Rattle.osd_files.specs.Rows.{IsRowBy}
 use Rattle.osd_files.specs.Serves.{ground_at}
 use Rattle.osd_files.specs.Views.{shown, site_at}
 use Rattle.osd_files.proofs.Rows.{if_ok}
 use Rattle.osd_files.proofs.Served.{read_row}
-use Rattle.osd_files.proofs.asks.ask_served.Goals as goal
+use Rattle.osd_files.proofs.asks.serve_ask.Goals as goal
 
 pub returns-then-not-is_read-clause-row : goal.returns-then-not-is_read-clause-row
 returns-then-not-is_read-clause-row g c =
     let ask = c.args.ask in
-    let Q : Turned → Type 0 = λ turned. IsRowBy (λ site s. ask_served site s ask) c.args.now (body_by (g.B.Bodies.records c.args.bodies.now)) (shown c.args.file.now) (shown c.serve_write.new.file) turned in
+    let Q : Turned → Type 0 = λ turned. IsRowBy (λ site s. serve_ask site s ask) c.args.now (body_by (g.B.Bodies.records c.args.bodies.now)) (shown c.args.file.now) (shown c.serve_write.new.file) turned in
     let P : Turned → Type 0 = λ turned. is_read ask.op ≡ false → Q turned in
     let no : is_read ask.op ≡ false = sym c.is_read.ensures ∙ c.if-not-is_read.true in
     let all : (turned : Turned) → P turned → Q turned = λ turned row. row no in
@@ -30,7 +30,7 @@ returns-clause-row g c =
     let ask = c.args.ask in
     let records = g.B.Bodies.records c.args.bodies.now in
     let P : Turned → Type 0 = λ turned. (own : FileHead) (held : List ObjectVersion) → turned ≡ read_answer (ground_at old records own held) ask.id (reads (ground_at old records own held) f.lead.primary ask.op) in
-    let Q : Turned → Type 0 = λ turned. IsRowBy (λ site s. ask_served site s ask) c.args.now (body_by records) old old turned in
+    let Q : Turned → Type 0 = λ turned. IsRowBy (λ site s. serve_ask site s ask) c.args.now (body_by records) old old turned in
     let yes : is_read ask.op ≡ true = sym c.is_read.ensures ∙ c.if-not-is_read.false in
     let all : (turned : Turned) → P turned → Q turned = λ turned is sealed.
     record {
@@ -40,4 +40,4 @@ returns-clause-row g c =
           ∙ ap (λ (t : Turned). let made : FileStep = record { state = old.state; turned = t } in made) (sym (is f.replica.head f.replica.held));
     }
     in
-    if_ok P Q c.read_served.result all c.read_served.ensures.turned
+    if_ok P Q c.serve_read.result all c.serve_read.ensures.turned

@@ -6,7 +6,7 @@ use Rattle.replica_primary.specs.Acks.{acked_by}
 use Rattle.replica_primary.specs.Written.{ground}
 use Rattle.replica_primary.proofs.Given.{if_so}
 use Rattle.replica_primary.proofs.Acks.{below_acked, issued_acked, newly_told, none_acked}
-use Rattle.replica_primary.proofs.acking.active_acked.Goals as goal
+use Rattle.replica_primary.proofs.acking.ack_active.Goals as goal
 
 pub returns-in_default : goal.returns-in_default
 returns-in_default c =

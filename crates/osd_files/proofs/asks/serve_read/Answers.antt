@@ -10,7 +10,7 @@ use Rattle.replica_primary.specs.Written.{ground}
 use Rattle.osd_files.specs.Leads.{place_of}
 use Rattle.osd_files.specs.Serves.{ground_at}
 use Rattle.osd_files.specs.Views.{shown}
-use Rattle.osd_files.proofs.asks.read_served.Goals as goal
+use Rattle.osd_files.proofs.asks.serve_read.Goals as goal
 
 pub returns-clause-turned : goal.returns-clause-turned
 returns-clause-turned g c =

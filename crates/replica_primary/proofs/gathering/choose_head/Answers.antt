@@ -7,7 +7,7 @@ use Rattle.replica_primary.specs.Shown.{shown_tenure}
 use Rattle.replica_primary.specs.Written.{ground}
 use Rattle.replica_primary.proofs.Given.{if_so}
 use Rattle.replica_primary.proofs.Hears.{keeps_none, other_chosen, own_chosen}
-use Rattle.replica_primary.proofs.gathering.head_chosen.Goals as goal
+use Rattle.replica_primary.proofs.gathering.choose_head.Goals as goal
 
 pub returns-then-source-place : goal.returns-then-source-place
 returns-then-source-place c =

@@ -1,8 +1,8 @@
 use Rattle.std.proofs.Common.{◌≡◌, ◌++◌, [], map, take, drop}
 use Rattle.xt_protocol.specs.declared.states.Peer.{Peer}
-use Rattle.xt_protocol.specs.PrimaryRows.{peer_fed}
+use Rattle.xt_protocol.specs.PrimaryRows.{feed_peer}
 use Rattle.replica_primary.specs.Moves.{ground_beyond}
-use Rattle.replica_primary.proofs.gathering.each_fed.Given as goal
+use Rattle.replica_primary.proofs.gathering.feed_each.Given as goal
 
 -- the peers so far are fed
 abbrev pub invariant-loop-peer : goal.invariant-loop-peer
@@ -10,7 +10,7 @@ invariant-loop-peer g l =
     let records = g.B.Bodies.records in
     let stands = ground_beyond l.place (records l.fn.bodies) l.fetched l.target [] in
     record {
-      fed : l.peers ≡ map (λ (p : Peer). let q : Peer = record { node = p.node; state = peer_fed stands l.target p.node p.state } in q) (take l.peer-index l.initial.peers) ++ drop l.peer-index l.initial.peers;
+      fed : l.peers ≡ map (λ (p : Peer). let q : Peer = record { node = p.node; state = feed_peer stands l.target p.node p.state } in q) (take l.peer-index l.initial.peers) ++ drop l.peer-index l.initial.peers;
       same : records l.bodies ≡ records l.fn.bodies;
       sound : g.B.Bodies.fault_count l.bodies ≡ g.B.Bodies.fault_count l.fn.bodies;
     }

@@ -6,13 +6,13 @@ use Rattle.xt_messages.specs.declared.file.Capability.{Capability}
 use Rattle.xt_protocol.specs.declared.turned.Turned.{Turned}
 use Rattle.xt_protocol.specs.SeenBodies.{body_by}
 use Rattle.xt_protocol.specs.Turns.{tells}
-use Rattle.xt_protocol.specs.AskRows.{ask_handled, ask_let_in, refusal_of}
+use Rattle.xt_protocol.specs.AskRows.{handle_ask, ask_let_in, refusal_of}
 use Rattle.xt_protocol.specs.FileStates.{FileStep}
 use Rattle.osd_files.specs.Rows.{IsRowBy, IsStep}
 use Rattle.osd_files.specs.Views.{shown, site_at}
 use Rattle.osd_files.proofs.LetIn.{handled}
 use Rattle.osd_files.proofs.Rows.{if_ok}
-use Rattle.osd_files.proofs.asks.ask_handled.Goals as goal
+use Rattle.osd_files.proofs.asks.handle_ask.Goals as goal
 
 pub returns-in_ok-tells-in-Some-clause-row : goal.returns-in_ok-tells-in-Some-clause-row
 returns-in_ok-tells-in-Some-clause-row g c =
@@ -46,7 +46,7 @@ returns-in-None-clause-row g c =
     let capability = c.args.capability.now in
     let body = body_by (g.B.Bodies.records c.args.bodies.now) in
     let P : Turned → Type 0 = λ turned. IsRowBy (λ site s. ask_let_in site s id capability asked None) now body old new turned in
-    let Q : Turned → Type 0 = λ turned. (test : Capability → Bool) → test capability ≡ c.args.sealed → IsStep (λ site s. ask_handled site s id capability asked) (site_at old.awake now test body) old new turned in
+    let Q : Turned → Type 0 = λ turned. (test : Capability → Bool) → test capability ≡ c.args.sealed → IsStep (λ site s. handle_ask site s id capability asked) (site_at old.awake now test body) old new turned in
     let all : (turned : Turned) → P turned → Q turned = λ turned row test is.
     let site = site_at old.awake now test body in
     let told : None ≡ refusal_of site f.lead.location capability asked =

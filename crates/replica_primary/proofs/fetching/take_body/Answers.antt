@@ -8,7 +8,7 @@ use Rattle.replica_primary.specs.Written.{ground}
 use Rattle.replica_primary.specs.Moves.{beyond, kept_of}
 use Rattle.replica_primary.proofs.Given.{if_so}
 use Rattle.replica_primary.proofs.Hears.{fetched_on, kept_first}
-use Rattle.replica_primary.proofs.fetching.body_fetched.Goals as goal
+use Rattle.replica_primary.proofs.fetching.take_body.Goals as goal
 
 pub returns-in-Fetching : goal.returns-in-Fetching
 returns-in-Fetching c =
