@@ -1,10 +1,9 @@
 -- What an image is made of.
-use Rattle.std.proofs.Common.{◌≡◌, ℕ, ◌+◌, ◌<◌, ◌≤◌, Bool, true, false, List, [], ◌∷◌, ◌++◌, length, get_or, take, drop, refl, sym, ◌∙◌, ap, subst, arith, not, ◌&&◌, ltb, take-append-drop, length-append, length-drop}
-use Rattle.std.specs.List.{list_any}
-use Rattle.std.proofs.lemmas.Bool.{and_from, not_from_false, lt-ltb, le-leb, lt-leb, le-ltb, or_from, and_left, and_right}
-use Rattle.std.proofs.lemmas.List.{get_or-take, get_or-drop, length-take-le, drop_more}
+use Rattle.std.proofs.Common.{◌≡◌, ℕ, ◌+◌, ◌<◌, ◌≤◌, false, List, length, get_or, take, drop, refl, sym, ◌∙◌, ap, subst, arith, length-drop}
+use Rattle.std.proofs.lemmas.Bool.{and_from, not_from_false, lt-ltb, lt-leb, le-ltb, or_from, and_left, and_right}
+use Rattle.std.proofs.lemmas.List.{get_or-take, get_or-drop, length-take-le}
 use Rattle.std.proofs.lemmas.Grind.{same_number_lists}
-use Rattle.disk_model.specs.Disk.{Kept, Range, IsImage, at_rest, is_inside, is_synced, reach, greatest_end, after_write, range_of}
+use Rattle.disk_model.specs.Disk.{Kept, Range, IsImage, at_rest, is_inside, after_write, range_of}
 
 -- a crash leaves a disk at rest as it is
 pub rest_stays : (bytes image : List ℕ) → IsImage (at_rest bytes) image → image ≡ bytes

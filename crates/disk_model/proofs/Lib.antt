@@ -1,6 +1,6 @@
 pub mod Filled
 pub mod Images
-pub mod Laid
 pub mod Moments
+pub mod Overlaid
 pub mod Planned
 pub mod Record

@@ -1,11 +1,10 @@
 -- One more line in the record of calls.
-use Rattle.std.proofs.Common.{◌≡◌, ◌⊎◌, inl, inr, ℕ, suc, ◌+◌, ◌≤◌, ◌<◌, List, [], ◌∷◌, ◌++◌, length, take, drop, refl, sym, ◌∙◌, ap, subst, arith, length-append, Vec, Result, is_ok, IsOk, if◌then◌else◌, vec_len, vec_capacity}
+use Rattle.std.proofs.Common.{◌≡◌, ◌⊎◌, inl, inr, ℕ, ◌+◌, ◌≤◌, ◌<◌, List, [], ◌∷◌, ◌++◌, length, take, drop, refl, sym, ◌∙◌, ap, subst, arith, length-append}
 use Rattle.std.proofs.lemmas.Bool.{cases_lt}
 use Rattle.std.proofs.lemmas.List.{take_all, take-append-le, drop-append-le, length-drop}
-use Rattle.std.specs.declared.alloc.Global.{Global}
 use Rattle.disk_model.specs.declared.note.Note.{Note}
 use Rattle.disk_model.specs.declared.note.Note.TheVariants.{Wrote, Synced}
-use Rattle.disk_model.specs.Disk.{Kept, IsImage, Elapses, at_rest, after_write, after_sync, range_of}
+use Rattle.disk_model.specs.Disk.{Kept, IsImage, Elapses, at_rest, after_write, after_sync}
 use Rattle.disk_model.specs.Changes.{Change, Write, Sync, kept_after, MightHaveLeft}
 use Rattle.disk_model.specs.Notes.{changes_of, pieces_length, piece_length, ranges_of}
 

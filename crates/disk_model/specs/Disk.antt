@@ -1,7 +1,6 @@
 -- What a disk keeps, what its calls do to that, and what a crash may leave of it.
-use Rattle.std.specs.Prelude.{ℕ, suc, ◌+◌, ◌-◌, ◌^◌, ◌<◌, ◌≤◌, ◌≡◌, ◌⊎◌, Bool, true, false, not, ◌&&◌, nat_le, nat_lt, min, max, List, [], ◌∷◌, ◌++◌, length, take, drop, replicate, slice_index, Result, is_err, OnOk, OnErr, IsTrue}
+use Rattle.std.specs.Prelude.{ℕ, ◌+◌, ◌<◌, ◌≤◌, ◌≡◌, ◌⊎◌, Bool, true, false, not, ◌&&◌, nat_le, nat_lt, max, List, [], ◌∷◌, ◌++◌, length, slice_index}
 use Rattle.std.specs.List.{list_any}
-use Rattle.xt_base.specs.declared.outside.Failed.{Failed}
 use Rattle.xt_base.specs.Overlay.{overlay}
 
 -- the places from start up to end, which is outside

@@ -1,8 +1,8 @@
 -- The laws of a disk in memory: its images are those of its record, and a read gives one of them.
-use Rattle.std.specs.Prelude.{ℕ, ◌+◌, ◌-◌, ◌<◌, ◌≤◌, ◌≡◌, ◌⊎◌, Bool, true, false, not, ◌&&◌, ◌||◌, nat_le, nat_lt, max, List, [], ◌∷◌, ◌++◌, length, take, drop, replicate, refl}
+use Rattle.std.specs.Prelude.{ℕ, ◌+◌, ◌-◌, ◌<◌, ◌≤◌, ◌≡◌, ◌⊎◌, true, false, not, nat_lt, max, List, [], ◌∷◌, ◌++◌, length, take, drop, refl}
 use Rattle.std.specs.List.{list_any}
 use Rattle.std.proofs.Common.{get_or, sym, ◌∙◌, ap, subst, inl, inr, ⊎_elim, arith, length-append, length-drop, length-take}
-use Rattle.std.proofs.lemmas.List.{get_or_append_left, get_or-append_right, get_or-take, get_or-drop, length-take-le, length-replicate, take_all}
+use Rattle.std.proofs.lemmas.List.{get_or_append_left, get_or-append_right, get_or-take, get_or-drop, length-replicate, take_all}
 use Rattle.std.proofs.lemmas.List.Folds.{list_any-append}
 use Rattle.std.proofs.lemmas.Bool.{and_parts, and_from, or_parts, and_cases, not-true, not_from_false, ltb-true, ltb-false, leb-false}
 use Rattle.std.proofs.Math.Bool.{or-false}

@@ -1,6 +1,8 @@
 pub mod Changes
+pub mod Contents
 pub mod Disk
 pub mod Gate
+pub mod Held
 pub mod Laws
 pub mod Memory
 pub mod Notes

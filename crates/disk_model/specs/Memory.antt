@@ -8,18 +8,18 @@ use Rattle.disk_model.specs.Notes.{changes_of, pieces_length, ranges_of}
 -- the disk that the fields stand for
 abbrev pub seen : Inside → Memory
 seen d = record {
-  first = d.first;
+  first = d.contents.first;
   changes = changes_of d.notes.items d.pieces.items;
-  reserved = d.reserved;
+  reserved = d.contents.reserved;
   room = d.room;
   plan = d.plan;
 }
 
--- Each piece has its note, the lengths are those of what is kept, the marks are those of the last sync that succeeded,
--- and the room is there.
+-- Each piece has its note, the contents are what a read gives, the marks are those of the last sync that succeeded, and
+-- the room is there.
 pub record IsConsistent (d : Inside) : Type 0 where
   pub pieces : pieces_length d.notes.items ≡ length d.pieces.items
-  pub read_length : d.read_length ≡ length (memory_kept (seen d)).read
+  pub read : d.contents.read ≡ (memory_kept (seen d)).read
   pub synced_notes : d.synced_notes ≤ length d.notes.items
   pub written : (memory_kept (seen d)).written ≡ ranges_of (drop d.synced_notes d.notes.items)
   pub synced_length : d.synced_length ≡ length (memory_kept (seen d)).synced

@@ -1,4 +1,4 @@
-ghost use Rattle.std.specs.Prelude.{◌≡◌, ◌≤◌, ◌+◌, ◌*◌, max, ℕ, List, Bool, length, take, drop, IsTrue, IfOk, OnOk, OnErr, is_err};
+ghost use Rattle.std.specs.Prelude.{◌≡◌, ◌≤◌, ◌+◌, ◌*◌, max, ℕ, List, Bool, true, false, length, take, drop, IsTrue, IfOk, OnOk, OnErr, is_err};
 ghost use Rattle.disk_model.specs.Disk.{Kept, IsImage, Writes, Syncs, Elapses, GoesByPlan};
 ghost use Rattle.xt_base.specs.Faults.{fault_count_after};
 
@@ -10,8 +10,8 @@ use xt_base::{Failed, OutOfMemory};
 /// The length then lies between the old end and the greatest written end. Bytes outside stay. After a sync that
 /// succeeded a crash leaves what a read gives.
 ///
-/// Each call but `reserve` and `faults` is a device call. It answers `Failed` only where the disk's count of
-/// faults rose in it, or is at the greatest 64-bit number.
+/// Each call but `faults`, `look`, `count_fault` and `reserve` is a device call. It answers `Failed` only where the disk's
+/// count of faults rose in it, or is at the greatest 64-bit number.
 pub trait Disk: Drop {
     /// Whether contracts know the contents. Those of a real file aren't known.
     ghost is_told: { Bool };
@@ -84,6 +84,29 @@ pub trait Disk: Drop {
             GoesByPlan 1 0 (fails self.old) (fails self.new) (is_err result) }
         ensures count { fault_count self.new ≡
             fault_count_after (is_err result) (fault_count self.old) };
+
+    /// The bytes from a place on, as many as the buffer takes, through a shared reference. It isn't a device call: no
+    /// plan counts it, and the moment stays. Where contracts know the contents, it never fails. Where it does fail, the
+    /// caller counts that by `count_fault`.
+    fn look(&self, at: u64, buf: &mut [u8]) -> Result<(), Failed>
+        requires { IsTrue is_told → at + length buf.old ≤ length (kept self.now).read }
+        ensures value { IsTrue is_told →
+            OnOk result (buf.new ≡ take (length buf.old) (drop at (kept self.now).read)) }
+        ensures sure { IsTrue is_told → is_err result ≡ false };
+
+    /// Counts a failure of a `look`, and returns how often the disk has failed now. It is no device call and changes
+    /// no byte.
+    fn count_fault(&mut self) -> u64
+        ensures value { result ≡ fault_count self.new }
+        ensures same { kept self.new ≡ kept self.old }
+        ensures reserved { reserved self.new ≡ reserved self.old }
+        ensures room { room self.new ≡ room self.old }
+        ensures time { IsTrue is_told →
+            Elapses (moment self.old) (moment self.new) (left_since self.old) (left_since self.new)
+            (kept self.new) }
+        ensures plan { IsTrue is_told →
+            (looks changes : ℕ) → fails self.new looks changes ≡ fails self.old looks changes }
+        ensures count { fault_count self.new ≡ fault_count_after true (fault_count self.old) };
 
     /// Writes a piece from a place on, over what is there and past the end. Until a sync, a crash may leave any
     /// bytes in its range, even where the write fails. It takes no memory.

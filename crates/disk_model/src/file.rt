@@ -3,7 +3,8 @@ ghost use Rattle.xt_base.specs.Faults.{fault_count_after};
 
 use crate::Disk;
 use std::fs::{File, OpenFile, OpenOptions};
-use std::io::{self, Read, Seek, SeekFrom, Write};
+use std::io;
+use std::os::unix::fs::FileExt;
 use std::path::Path;
 use std::rt::Files;
 use xt_base::{Failed, OutOfMemory};
@@ -70,30 +71,26 @@ fn open<R: Files<File = File>>(rt: &R, name: &str) -> io::Result<File> {
     Ok(file)
 }
 
-fn attached<F>(file: &mut Option<F>) -> io::Result<&mut F> {
+fn attached<F>(file: &Option<F>) -> io::Result<&F> {
     match file {
         Some(file) => Ok(file),
         None => Err(io::ErrorKind::NotFound.into()),
     }
 }
 
-fn length_of<F: OpenFile>(file: &mut Option<F>) -> io::Result<u64> {
+fn length_of<F: OpenFile>(file: &Option<F>) -> io::Result<u64> {
     Ok(attached(file)?.metadata()?.len())
 }
 
-fn read_at<F: Read + Seek>(file: &mut Option<F>, at: u64, buf: &mut [u8]) -> io::Result<()> {
-    let file = attached(file)?;
-    file.seek(SeekFrom::Start(at))?;
-    file.read_exact(buf)
+fn read_at<F: FileExt>(file: &Option<F>, at: u64, buf: &mut [u8]) -> io::Result<()> {
+    attached(file)?.read_exact_at(buf, at)
 }
 
-fn write_at<F: Write + Seek>(file: &mut Option<F>, at: u64, piece: &[u8]) -> io::Result<()> {
-    let file = attached(file)?;
-    file.seek(SeekFrom::Start(at))?;
-    file.write_all(piece)
+fn write_at<F: FileExt>(file: &Option<F>, at: u64, piece: &[u8]) -> io::Result<()> {
+    attached(file)?.write_all_at(piece, at)
 }
 
-fn sync_data<F: OpenFile>(file: &mut Option<F>) -> io::Result<()> {
+fn sync_data<F: OpenFile>(file: &Option<F>) -> io::Result<()> {
     attached(file)?.sync_data()
 }
 
@@ -127,6 +124,11 @@ impl<R: Files<File = File> + Drop> Disk for FileDisk<R> {
         self.faults
     }
 
+    fn count_fault(&mut self) -> u64 {
+        self.faults = self.faults.saturating_add(1);
+        self.faults
+    }
+
     fn attach(&mut self, name: &str) -> Result<(), Failed> {
         self.reserved = 0;
         self.room = 0;
@@ -136,19 +138,23 @@ impl<R: Files<File = File> + Drop> Disk for FileDisk<R> {
     }
 
     fn length(&mut self) -> Result<u64, Failed> {
-        counted(&mut self.faults, length_of(&mut self.file))
+        counted(&mut self.faults, length_of(&self.file))
     }
 
     fn read(&mut self, at: u64, buf: &mut [u8]) -> Result<(), Failed> {
-        counted(&mut self.faults, read_at(&mut self.file, at, buf))
+        counted(&mut self.faults, read_at(&self.file, at, buf))
+    }
+
+    fn look(&self, at: u64, buf: &mut [u8]) -> Result<(), Failed> {
+        read_at(&self.file, at, buf).map_err(|_| Failed)
     }
 
     fn write(&mut self, at: u64, piece: &[u8]) -> Result<(), Failed> {
-        counted(&mut self.faults, write_at(&mut self.file, at, piece))
+        counted(&mut self.faults, write_at(&self.file, at, piece))
     }
 
     fn sync(&mut self) -> Result<(), Failed> {
-        counted(&mut self.faults, sync_data(&mut self.file))
+        counted(&mut self.faults, sync_data(&self.file))
     }
 
     fn reserve(&mut self, end: u64) -> Result<(), OutOfMemory> {

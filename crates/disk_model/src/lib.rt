@@ -5,10 +5,10 @@
 //! in which it stops. `FileDisk` is a real file, of whose contents nothing is claimed.
 #![tactic(auto)]
 
+mod contents;
 mod disk;
 mod file;
 mod filling;
-mod laying;
 mod memory;
 mod note;
 mod plan;

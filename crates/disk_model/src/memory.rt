@@ -1,8 +1,8 @@
 ghost use Rattle.std.specs.Prelude.{◌≡◌, ◌≤◌, ◌+◌, ◌*◌, [], IfOk, length, take, drop};
 
 use crate::Disk;
+use crate::contents::Contents;
 use crate::filling::fill_unsynced;
-use crate::laying::lay;
 use crate::note::Note;
 use crate::plan::{Plan, Stop};
 use std::alloc::{AllocError, Global};
@@ -11,22 +11,19 @@ use xt_base::{CallList, Failed, Octets, OutOfMemory};
 
 /// A disk in memory. Its calls fail as planned, and inside the reserved end and room not otherwise.
 ///
-/// It takes memory in `reserve`, `image` and `filled` alone. A write that fails has put its piece, too. A read, `image`
-/// and `filled` go through the whole record of calls.
+/// It takes memory in `reserve`, `image` and `filled` alone. A write that fails has put its piece, too. A read or a look
+/// takes as long as its buffer is long, however many calls came before; `image` and `filled` go through all bytes, and `filled`
+/// through the calls since the last sync as well.
 #[derive(Drop)]
 pub struct MemoryDisk {
     alloc: Global,
-    first: Octets,
-    /// The record of calls since the making, and its pieces one after the other. What a read gives isn't kept: it is laid
-    /// from these and the first bytes.
+    contents: Contents,
+    /// The record of calls since the making, and its pieces one after the other.
     notes: Vec<Note>,
     pieces: Vec<u8>,
-    /// How many bytes a read gives.
-    read_length: usize,
     /// How many notes there were at the last sync that succeeded, and how many bytes.
     synced_notes: usize,
     synced_length: usize,
-    reserved: u64,
     room: u64,
     plan: Plan,
 }
@@ -61,13 +58,11 @@ impl MemoryDisk {
         let length = bytes.as_slice().len();
         MemoryDisk {
             alloc,
-            first: bytes,
+            contents: Contents::new(bytes),
             notes: Vec::new(alloc),
             pieces: Vec::new(alloc),
-            read_length: length,
             synced_notes: 0,
             synced_length: length,
-            reserved: 0,
             room: 0,
             plan: Plan {
                 failing,
@@ -105,23 +100,15 @@ impl MemoryDisk {
     fn bytes(&self) -> Result<Vec<u8>, OutOfMemory>
         ensures { IfOk result (λ bytes. bytes.items ≡ (memory_kept self.now).read) }
     {
-        let mut bytes = vec![in self.alloc; 0; self.read_length]?;
-        self.lay_from(0, bytes.as_mut_slice());
-        Ok(bytes)
+        Vec::from_slice(self.alloc, self.contents.read())
     }
 
-    /// Lays the bytes that a read gives from a place on into a buffer.
-    fn lay_from(&self, at: usize, buf: &mut [u8])
+    /// Copies the bytes that a read gives from a place on into a buffer.
+    fn copy_to(&self, at: usize, buf: &mut [u8])
         requires { at + length buf.old ≤ length (memory_kept self.now).read }
         ensures { buf.new ≡ take (length buf.old) (drop at (memory_kept self.now).read) }
     {
-        lay(
-            buf,
-            at,
-            self.first.as_slice(),
-            self.notes.as_slice(),
-            self.pieces.as_slice(),
-        );
+        buf.copy_from_slice(&self.contents.read()[at..at + buf.len()]);
     }
 }
 
@@ -157,21 +144,31 @@ impl Disk for MemoryDisk {
         self.plan.faults
     }
 
+    fn count_fault(&mut self) -> u64 {
+        self.plan.count_fault();
+        self.plan.faults
+    }
+
     /// Takes every name, and keeps its bytes.
     fn attach(&mut self, _name: &str) -> Result<(), Failed> {
-        self.reserved = 0;
+        self.contents.release();
         self.room = 0;
         self.plan.look()
     }
 
     fn length(&mut self) -> Result<u64, Failed> {
         self.plan.look()?;
-        Ok(self.read_length as u64)
+        Ok(self.contents.read().len() as u64)
     }
 
     fn read(&mut self, at: u64, buf: &mut [u8]) -> Result<(), Failed> {
         self.plan.look()?;
-        self.lay_from(at as usize, buf);
+        self.copy_to(at as usize, buf);
+        Ok(())
+    }
+
+    fn look(&self, at: u64, buf: &mut [u8]) -> Result<(), Failed> {
+        self.copy_to(at as usize, buf);
         Ok(())
     }
 
@@ -183,7 +180,7 @@ impl Disk for MemoryDisk {
         };
         let _ = self.notes.push(note);
         let _ = self.pieces.extend_from_slice(piece);
-        self.read_length = self.read_length.max(place + piece.len());
+        self.contents.write(place, piece);
         self.room -= piece.len() as u64 + 64;
         self.plan.change()
     }
@@ -192,7 +189,7 @@ impl Disk for MemoryDisk {
         self.plan.change()?;
         let _ = self.notes.push(Note::Synced);
         self.synced_notes = self.notes.len();
-        self.synced_length = self.read_length;
+        self.synced_length = self.contents.read().len();
         self.room -= 64;
         Ok(())
     }
@@ -201,7 +198,7 @@ impl Disk for MemoryDisk {
         let room = room_for(end)?;
         self.notes.reserve((room / 64) as usize + 1)?;
         self.pieces.reserve(room as usize)?;
-        self.reserved = self.reserved.max(end);
+        self.contents.reserve(self.alloc, end)?;
         self.room = self.room.max(room);
         Ok(())
     }

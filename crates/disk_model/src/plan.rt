@@ -1,4 +1,4 @@
-ghost use Rattle.std.specs.Prelude.{◌≡◌, ◌+◌, is_err};
+ghost use Rattle.std.specs.Prelude.{◌≡◌, ◌+◌, true, is_err};
 ghost use Rattle.disk_model.specs.Disk.{GoesByPlan};
 ghost use Rattle.xt_base.specs.Faults.{counted, fault_count_after};
 
@@ -58,10 +58,21 @@ impl Plan {
         ensures changes { self.new.changes ≡ self.old.changes }
     {
         if self.fails() {
-            self.faults = self.faults.saturating_add(1);
+            self.count_fault();
             return Err(Failed);
         }
         Ok(())
+    }
+
+    /// Counts a failure.
+    pub fn count_fault(&mut self)
+        ensures count { self.new.faults ≡ fault_count_after true self.old.faults }
+        ensures failing { self.new.failing ≡ self.old.failing }
+        ensures stop { self.new.stop ≡ self.old.stop }
+        ensures calls { self.new.calls ≡ self.old.calls }
+        ensures changes { self.new.changes ≡ self.old.changes }
+    {
+        self.faults = self.faults.saturating_add(1);
     }
 
     fn fails(&self) -> bool

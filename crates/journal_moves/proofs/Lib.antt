@@ -1,3 +1,4 @@
 pub mod Areas
 pub mod Outcomes
 pub mod Steps
+pub mod Stopped

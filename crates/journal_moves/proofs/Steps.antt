@@ -8,7 +8,8 @@ use Rattle.xt_base.specs.Overlay.{overlay}
 use Rattle.disk_model.specs.Disk.{Kept, IsImage, Elapses, LeavesOnly, at_rest}
 use Rattle.disk_model.proofs.Images.{rest_stays}
 use Rattle.disk_model.proofs.Moments.{elapsed}
-use Rattle.journal_records.specs.Calls.{MayBeTorn}
+use Rattle.disk_model.proofs.Filled.{filled_is_image}
+use Rattle.journal_records.specs.Calls.{MayBeTorn, IsTornAt}
 use Rattle.journal_areas.specs.declared.superblock.Slot.{Slot}
 use Rattle.journal_areas.specs.declared.superblock.Superblock.{Superblock}
 use Rattle.journal_areas.specs.Format.{open_gate, records, end_of, AreGiven}
@@ -19,7 +20,8 @@ use Rattle.journal_areas.specs.Sites.{slot_of, new_slot, site, is_second, put, s
 use Rattle.journal_areas.proofs.Slots.{current_shut, still_second}
 use Rattle.journal_areas.proofs.Moving.{Agrees, torn_agrees, written_agrees, written_there, records_stay, standing, area_written, gate_left, gate_same, numbers_left, gate_opened, numbers_written, put_same, slot_before, long, here, slot_here}
 use Rattle.journal_areas.proofs.Adding.{new_record, not_yet, still_none, has_one, site_away}
-use Rattle.journal_moves.specs.Moves.{shut_calls, IsMove, end_ready, IsEither, IsAt, IsNewArea, Stages, IsNextSlot, Fits, shut_gate, with_shut, numbered}
+use Rattle.journal_moves.specs.Moves.{shut_calls, FailsWithin, IsMove, IsMoveStopped, end_ready, IsEither, IsAt, IsNewArea, Stages, IsNextSlot, Fits, shut_gate, with_shut, numbered}
+use Rattle.journal_moves.proofs.Stopped.{torn_image, gate_filled, open_is, shut_is}
 
 -- ---- journals at rest
 
@@ -210,14 +212,40 @@ module _ (s : Superblock) (kept : Kept) (old : List (List ℕ)) (place : ℕ) (p
           gate_opened kept.read s old (standing kept.read s old j) second which image payloads is.more agrees opens next.number (omega (arith, is.far, next.place_is)) is.given
           (ap (λ (n : ℕ). drop n kept.read) next.place_is ∙ is.there))
 
+      open_now : (image : List ℕ) → MayBeTorn (slot_place second s.gate) (open_gate ∷ []) kept.read image → get_or image (slot_place second s.gate) 0 ≡ open_gate → StandsFor image payloads
+      open_now image torn opens =
+          stands (Some (put second s (record (slot_at second s) { gate = open_gate }))) image payloads
+          (opens_in image (torn_agrees kept.read (slot_place second s.gate) (open_gate ∷ []) image torn) opens)
+
+      still_shut : (image : List ℕ) → MayBeTorn (slot_place second s.gate) (open_gate ∷ []) kept.read image → get_or image (slot_place second s.gate) 0 ≢ open_gate → StandsFor image old
+      still_shut image torn shut =
+          let agrees : Agrees kept.read image (slot_place second s.gate) (slot_place second s.gate + 1) = torn_agrees kept.read (slot_place second s.gate) (open_gate ∷ []) image torn in
+          stands (Some (put second s (record (slot_at second s) { gate = get_or image (slot_place second s.gate) 0 }))) image old
+          (∥∥₁_map is.keeps.journal (λ j. gate_left kept.read s old (standing kept.read s old j) second which image agrees shut))
+
       pub open_torn : (image : List ℕ) → MayBeTorn (slot_place second s.gate) (open_gate ∷ []) kept.read image → IsEither old payloads image
       open_torn image torn =
-          let agrees : Agrees kept.read image (slot_place second s.gate) (slot_place second s.gate + 1) = torn_agrees kept.read (slot_place second s.gate) (open_gate ∷ []) image torn in
           elim (cases_eq (get_or image (slot_place second s.gate) 0) open_gate) [
-            | inl opens ↦ inr (stands (Some (put second s (record (slot_at second s) { gate = open_gate }))) image payloads (opens_in image agrees opens))
-            | inr shut ↦ inl (stands (Some (put second s (record (slot_at second s) { gate = get_or image (slot_place second s.gate) 0 }))) image old
-                (∥∥₁_map is.keeps.journal (λ j. gate_left kept.read s old (standing kept.read s old j) second which image agrees shut)))
+            | inl opens ↦ inr (open_now image torn opens)
+            | inr shut ↦ inl (still_shut image torn shut)
           ]
+
+      -- one of the two calls failed
+      pub open_stopped : (fails : ℕ → ℕ → Bool) (left : Kept) → FailsWithin 2 fails → IsTornAt (slot_place second s.gate) (open_gate ∷ []) kept.read left
+          → IsMoveStopped 2 fails left old payloads
+      open_stopped fails left failed torn = record {
+        call = failed.0;
+        some = failed.1;
+        within = failed.2;
+        first = failed.3;
+        image = λ fill bytes filled.
+            let may_be = torn_image (slot_place second s.gate) (open_gate ∷ []) kept.read left bytes torn (filled_is_image fill left bytes filled) in
+            let gate = gate_filled (slot_place second s.gate) open_gate kept.read left fill bytes torn filled in
+            elim (cases_eq fill open_gate) [
+              | inl opens ↦ subst (StandsFor bytes) (sym (open_is 2 failed.0 fill old payloads (omega (arith, failed.1)) opens)) (open_now bytes may_be (gate ∙ opens))
+              | inr shut ↦ subst (StandsFor bytes) (sym (shut_is 2 failed.0 fill old payloads shut)) (still_shut bytes may_be (λ opens. shut (sym gate ∙ opens)))
+            ];
+      }
 
       pub open_done : KeepsIn (Some (put second s (record (slot_at second s) { gate = open_gate }))) (at_rest (overlay kept.read (slot_place second s.gate) (open_gate ∷ []))) payloads
       open_done =

@@ -1,6 +1,6 @@
 -- What the parts of a move to a new area do to a disk.
-use Rattle.std.specs.Prelude.{ℕ, ◌+◌, ◌<◌, ◌^◌, ◌≤◌, ◌≡◌, ◌⊎◌, ◌==◌, Bool, if◌then◌else◌, Option, Some, None, List, [], ◌∷◌, ◌++◌, drop}
-use Rattle.disk_model.specs.Disk.{Kept}
+use Rattle.std.specs.Prelude.{ℕ, ◌+◌, ◌<◌, ◌^◌, ◌≤◌, ◌≡◌, ◌⊎◌, ◌==◌, ◌&&◌, nat_le, Bool, if◌then◌else◌, Option, Some, None, List, [], ◌∷◌, ◌++◌, drop}
+use Rattle.disk_model.specs.Disk.{Kept, IsFilled}
 use Rattle.journal_records.specs.Calls.{GoesOn, AllSucceed, IsFirstFailure}
 use Rattle.journal_areas.specs.declared.superblock.Slot.{Slot}
 use Rattle.journal_areas.specs.declared.superblock.Superblock.{Superblock}
@@ -99,3 +99,18 @@ abbrev pub move_calls : Option Superblock → ℕ → ℕ
 move_calls super end =
     let s = superblock_at super end in
     ready_calls super + 2 + (shut_calls (slot_at (is_second s) s).gate + 2) + 2
+
+-- ---- a move that breaks
+
+-- The last two of these calls write the gate of the new area's slot and sync it. The new payloads count exactly where the one that failed is
+-- one of these two, and the byte of all places that aren't synced is the open gate's.
+abbrev pub payloads_after_move : ℕ → ℕ → ℕ → List (List ℕ) → List (List ℕ) → List (List ℕ)
+payloads_after_move calls call fill old payloads = if nat_le calls (call + 1) && (fill == open_gate) then payloads else old
+
+-- One of these calls failed, the first that was to fail, and what a crash leaves stands for the payloads that this call determines.
+pub record IsMoveStopped (calls : ℕ) (fails : ℕ → ℕ → Bool) (kept : Kept) (old payloads : List (List ℕ)) : Type 0 where
+  pub call : ℕ
+  pub some : 1 ≤ call
+  pub within : call ≤ calls
+  pub first : IsFirstFailure fails call
+  pub image : (fill : ℕ) (bytes : List ℕ) → IsFilled fill kept bytes → StandsFor bytes (payloads_after_move calls call fill old payloads)

@@ -8,7 +8,7 @@ ghost use Rattle.journal_areas.specs.Kept.{KeepsIn};
 ghost use Rattle.journal_areas.specs.Superblocks.{base_of, number_bytes};
 ghost use Rattle.journal_areas.specs.Sites.{area_size, new_slot, need_for, slot_of, superblock_at, with_slot};
 ghost use Rattle.journal_moves.specs.Answers.{IsPlaced, full_need, told_need, is_broken, located_after};
-ghost use Rattle.journal_moves.specs.Moves.{Fits, MakesCalls, FailsWithin, move_calls, IsMove, IsEither};
+ghost use Rattle.journal_moves.specs.Moves.{Fits, MakesCalls, FailsWithin, move_calls, IsMove, IsEither, IsMoveStopped};
 
 use crate::area::{area_of, numbers_of, size_of};
 use crate::parts::{number_slot, open_slot, ready, write_area};
@@ -64,11 +64,16 @@ pub fn move_to<D: Disk>(
         KeepsIn at.now.superblock (D.kept disk.old) old → at.now.end ≡ end_in at.now.superblock old →
         LeavesOnly D.moment D.left_since disk.old disk.new (IsEither old payloads.now) }
 
-    // It breaks only where one of its calls fails.
+    // It breaks only where one of its calls fails, and which one that is decides what a crash leaves.
     ensures made { IsTrue D.is_told → OnOk result
         (MakesCalls (move_calls at.now.superblock at.now.end) (D.fails disk.old) (D.fails disk.new)) }
     ensures failed { IsTrue D.is_told → IsErrOf result Refusal.Broken →
         FailsWithin (move_calls at.now.superblock at.now.end) (D.fails disk.old) }
+    ensures stopped { IsTrue D.is_told → (old : List (List ℕ)) →
+        KeepsIn at.now.superblock (D.kept disk.old) old → at.now.end ≡ end_in at.now.superblock old →
+        IsErrOf result Refusal.Broken →
+        IsMoveStopped (move_calls at.now.superblock at.now.end) (D.fails disk.old) (D.kept disk.new)
+        old payloads.now }
     ensures no_call { IsTrue D.is_told → IsErrOf result Refusal.OutOfMemory →
         GoesOn 0 0 (D.fails disk.old) (D.fails disk.new) }
 
@@ -209,6 +214,11 @@ fn write_pieces<D: Disk>(
         (MakesCalls (move_calls at.now.superblock at.now.end) (D.fails disk.old) (D.fails disk.new)) }
     ensures failed { IsTrue D.is_told → IsErrOf result Refusal.Broken →
         FailsWithin (move_calls at.now.superblock at.now.end) (D.fails disk.old) }
+    ensures stopped { IsTrue D.is_told → (old payloads : List (List ℕ)) →
+        IsMove at.now.superblock (D.kept disk.old) at.now.end old slot.now area.now numbers.now payloads →
+        IsErrOf result Refusal.Broken →
+        IsMoveStopped (move_calls at.now.superblock at.now.end) (D.fails disk.old) (D.kept disk.new)
+        old payloads }
     ensures no_call { IsTrue D.is_told → IsErrOf result Refusal.OutOfMemory →
         GoesOn 0 0 (D.fails disk.old) (D.fails disk.new) }
     ensures not_full { told_need result ≡ None }
@@ -250,6 +260,11 @@ fn move_on<D: Disk>(
     ensures made { IsTrue D.is_told →
         OnOk result (MakesCalls (move_calls at.now.superblock at.now.end) (D.fails disk.old) (D.fails disk.new)) }
     ensures failed { IsTrue D.is_told → OnErr result (FailsWithin (move_calls at.now.superblock at.now.end) (D.fails disk.old)) }
+    ensures stopped { IsTrue D.is_told → (old payloads : List (List ℕ)) →
+        IsMove at.now.superblock (D.kept disk.old) at.now.end old slot.now area.now numbers.now payloads →
+        OnErr result
+        (IsMoveStopped (move_calls at.now.superblock at.now.end) (D.fails disk.old) (D.kept disk.new)
+        old payloads) }
     ensures count { D.fault_count disk.new ≡
         fault_count_after (is_err result) (D.fault_count disk.old) }
 {

@@ -7,7 +7,7 @@ ghost use Rattle.journal_areas.specs.Kept.{KeepsIn};
 ghost use Rattle.journal_areas.specs.Superblocks.{base_of, number_bytes};
 ghost use Rattle.journal_areas.specs.Sites.{is_second, put, slot_at, superblock_at, with_slot};
 ghost use Rattle.journal_moves.specs.Answers.{IsPlaced};
-ghost use Rattle.journal_moves.specs.Moves.{MakesCalls, FailsWithin, ready_calls, shut_calls, IsAt, IsNewArea, Stages, IsNextSlot, Fits, IsMove, IsEither, end_ready, shut_gate, with_shut, numbered};
+ghost use Rattle.journal_moves.specs.Moves.{MakesCalls, FailsWithin, ready_calls, shut_calls, IsAt, IsNewArea, Stages, IsNextSlot, Fits, IsMove, IsEither, IsMoveStopped, end_ready, shut_gate, with_shut, numbered};
 
 use crate::moving::Located;
 use disk_model::{Disk, OPEN_GATE};
@@ -244,6 +244,10 @@ pub fn open_slot<D: Disk>(disk: &mut D, superblock: &Superblock, second: bool) -
     ensures made { IsTrue D.is_told →
         OnOk result (MakesCalls (2) (D.fails disk.old) (D.fails disk.new)) }
     ensures failed { IsTrue D.is_told → OnErr result (FailsWithin (2) (D.fails disk.old)) }
+    ensures stopped { IsTrue D.is_told → (old payloads : List (List ℕ)) (place : ℕ) →
+        Stages superblock.now (D.kept disk.old) old place payloads → second ≡ is_second superblock.now →
+        IsNextSlot superblock.now (slot_at second superblock.now) place →
+        OnErr result (IsMoveStopped 2 (D.fails disk.old) (D.kept disk.new) old payloads) }
     ensures reserved { D.reserved disk.new ≡ D.reserved disk.old }
     ensures room { D.room disk.old ≤ D.room disk.new + 129 }
     ensures count { D.fault_count disk.new ≡

@@ -1,18 +1,18 @@
 -- What a crash leaves in each half of an append.
-use Rattle.std.proofs.Common.{◌≡◌, ◌≢◌, inl, inr, ℕ, ◌+◌, ◌-◌, ◌^◌, ◌<◌, ◌≤◌, true, false, Bool, List, [], ◌∷◌, ◌++◌, length, get_or, take, drop, sym, ◌∙◌, ap, subst, arith, append_assoc, length-append, take-append-drop, Option, Err}
+use Rattle.std.proofs.Common.{◌≡◌, ◌≢◌, inl, inr, ℕ, ◌+◌, ◌-◌, ◌^◌, ◌<◌, ◌≤◌, Bool, List, [], ◌∷◌, ◌++◌, length, get_or, take, drop, sym, ◌∙◌, ap, subst, arith, append_assoc, length-append, take-append-drop, Option, Err}
 use Rattle.std.specs.Prelude.{slice_index}
-use Rattle.std.specs.List.{list_any}
 use Rattle.std.proofs.lemmas.List.{append-nil, take_at, drop_more, length-drop}
-use Rattle.std.proofs.lemmas.Bool.{cases_eq, cond-true, cond-false, eq-eqb, ne_eqb, and_from, and_left, and_right, le-leb, lt-leb, lt-ltb, not_from_true, or_left}
+use Rattle.std.proofs.lemmas.Bool.{cases_eq, cond-true, cond-false, eq-eqb, ne_eqb, and_from, and_left, and_right, le-leb, lt-leb}
 use Rattle.std.proofs.Math.Seq.{drop-append-add}
 use Rattle.std.proofs.Math.Logic.{∥∥₁_elim, ∥∥₁_map}
 use Rattle.std.proofs.Props.{props}
-use Rattle.disk_model.specs.Disk.{Kept, IsImage, IsFilled, Elapses, LeavesOnly, at_rest, after_write, range_of, is_inside, is_synced, reach, greatest_end}
+use Rattle.disk_model.specs.Disk.{Kept, IsImage, IsFilled, Elapses, LeavesOnly}
 use Rattle.xt_base.specs.Overlay.{overlay, zeros}
 use Rattle.disk_model.proofs.Filled.{filled_is_image}
 use Rattle.disk_model.proofs.Moments.{elapsed}
-use Rattle.disk_model.proofs.Images.{front_stays, back_stays, rest_stays, size_stays, same_images}
+use Rattle.disk_model.proofs.Images.{front_stays, back_stays, rest_stays, size_stays}
 use Rattle.journal_areas.specs.declared.superblock.Superblock.{Superblock}
+use Rattle.journal_moves.proofs.Stopped.{torn_image, gate_filled}
 use Rattle.journal_areas.proofs.Reaching.{reached_front, reached_more, reached_stays}
 use Rattle.xt_journal.specs.declared.append.Refusal.{Refusal}
 use Rattle.xt_journal.specs.declared.append.Refusal.TheVariants.{Broken, OutOfMemory}
@@ -151,10 +151,7 @@ turning super bytes end piece payloads payload place given is_piece was =
           )) written;
     }
 
--- the images of a disk on which a write of this piece is torn
-torn_image : (at : ℕ) (piece bytes : List ℕ) (kept : Kept) (image : List ℕ) → IsTornAt at piece bytes kept → IsImage kept image → MayBeTorn at piece bytes image
-torn_image at piece bytes kept image torn is = same_images kept (after_write at piece (at_rest bytes)) image torn.synced torn.written is
-
+-- which payloads count
 pub stop_early : (call fill : ℕ) (payloads : List (List ℕ)) (payload : List ℕ) → call ≤ 2 → payloads_after_stop call fill payloads payload ≡ payloads
 stop_early call fill payloads payload early = cond-false _ _ _ (and_left _ _ (lt-leb 3 call (omega (arith, early))))
 
@@ -202,16 +199,8 @@ module _ (super : Option Superblock) (kept : Kept) (end : ℕ) (piece : List ℕ
     may_be : MayBeTorn end (open_gate ∷ []) (overlay kept.read (end + 1) piece) bytes
     may_be = torn_image end (open_gate ∷ []) (overlay kept.read (end + 1) piece) left bytes torn (filled_is_image fill left bytes filled)
 
-    far : end + 1 ≤ reach left
-    far = omega (arith, ap greatest_end torn.written)
-
-    unsynced : is_synced left end ≡ false
-    unsynced =
-        let in_range : is_inside end (range_of end (open_gate ∷ [])) ≡ true = and_from _ _ (le-leb end end (omega arith)) (lt-ltb end (end + 1) (omega arith)) in
-        and_right _ _ (not_from_true _ (ap (list_any (is_inside end)) torn.written ∙ or_left _ _ in_range))
-
     gate_is : get_or bytes end 0 ≡ fill
-    gate_is = filled.filled end (omega (arith, far)) unsynced
+    gate_is = gate_filled end open_gate (overlay kept.read (end + 1) piece) left fill bytes torn filled
 
     pub second_stop : (call : ℕ) → 3 ≤ call → StandsIn super bytes (payloads_after_stop call fill payloads payload)
     second_stop call late = elim (cases_eq fill open_gate) [

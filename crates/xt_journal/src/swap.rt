@@ -12,7 +12,7 @@ impl<D: Disk> Journal<D> {
     ghost use Rattle.journal_records.specs.Calls.{GoesOn};
     ghost use Rattle.journal_areas.specs.Sites.{area_of, area_size, moved, need_for, new_area_of};
     ghost use Rattle.journal_moves.specs.Answers.{full_need};
-    ghost use Rattle.journal_moves.specs.Moves.{FailsWithin, IsEither, MakesCalls, move_calls};
+    ghost use Rattle.journal_moves.specs.Moves.{FailsWithin, IsEither, IsMoveStopped, MakesCalls, move_calls};
     ghost use Rattle.xt_journal.specs.Access.{disk_of, place_of, limit_of, superblock_of};
     ghost use Rattle.xt_journal.specs.Answers.{append_fault, disk_after_append, without_memory};
     ghost use Rattle.xt_journal.specs.Format.{AreGiven, KeepsJournal, StandsFor};
@@ -52,12 +52,18 @@ impl<D: Disk> Journal<D> {
             (image : List ℕ) → IsImage (D.kept (disk_after_append result)) image →
             IsEither old payloads.now image }
 
-        // It fails exactly where one of its calls does: those that add a superblock, write the area, and fill and open its slot.
+        // It fails exactly where one of its calls does: those that add a superblock, write the area, and fill and open its slot. Which one
+        // that is decides what a crash leaves.
         ensures made { IsTrue D.is_told → OnOk result
             (MakesCalls (move_calls (superblock_of self) (place_of self))
             (D.fails (disk_of self)) (D.fails (disk_after_append result))) }
         ensures failed { IsTrue D.is_told → IsSome (append_fault result) →
             FailsWithin (move_calls (superblock_of self) (place_of self)) (D.fails (disk_of self)) }
+        ensures stopped { IsTrue D.is_told → (old : List (List ℕ)) →
+            KeepsJournal (D.kept (disk_of self)) old →
+            IsSome (append_fault result) →
+            IsMoveStopped (move_calls (superblock_of self) (place_of self)) (D.fails (disk_of self))
+            (D.kept (disk_after_append result)) old payloads.now }
         ensures count { D.fault_count (disk_after_append result) ≡
             fault_count_after (is_some (append_fault result)) (D.fault_count (disk_of self)) }
         ensures fault { IfSome (append_fault result) (λ count. count ≡

@@ -8,6 +8,7 @@ use Rattle.journal_moves.specs.Moves.{Stages, IsEither, MakesCalls, FailsWithin,
 use Rattle.journal_areas.specs.declared.superblock.Superblock.{Superblock}
 use Rattle.journal_moves.proofs.Steps.{shut_same, numbered_facts, opened_is, new_area}
 use Rattle.journal_moves.proofs.Outcomes.{an_err, made_then, failed_then, failed_more}
+use Rattle.journal_moves.proofs.Stopped.{stopped_early, stopped_then}
 use Rattle.journal_moves.proofs.moving.move_on.Goals as goal
 
 pub returns-in_err-write_area-clause-any_moment : goal.returns-in_err-write_area-clause-any_moment
@@ -155,6 +156,84 @@ returns-in_err-open_slot-clause-failed g c told =
     made_then a (D.fails c.write_area.new.disk) (D.fails c.number_slot.new.disk) (n + 2) m one
     (subst (λ (k : ℕ). MakesCalls (k + 2) (D.fails c.write_area.new.disk) (D.fails c.number_slot.new.disk)) same (c.in_ok-numbered.ensures.made told)) in
     an_err c.from_residual-in_err-open_slot.result (failed_then a (D.fails c.number_slot.new.disk) (n + 2 + m) 2 two (c.in_err-open_slot.ensures.failed told))
+
+pub returns-in_err-superblock-clause-stopped : goal.returns-in_err-superblock-clause-stopped
+returns-in_err-superblock-clause-stopped g c told old payloads move =
+    let D = g.D.Disk in
+    let n = ready_calls c.args.at.now.superblock in
+    let run = c.ready.ensures.any_moment told old move.is_at in
+    an_err c.from_residual.result
+    (stopped_early (D.fails c.args.disk.now) (D.kept c.ready.new.disk) n (move_calls c.args.at.now.superblock c.args.at.now.end) old payloads (omega arith)
+    (c.in_err-superblock.ensures.failed told)
+    (λ image is. run.each image (g.met.D.Disk.counts_now c.ready.new.disk (D.moment c.args.disk.now) image told run.later is)))
+
+pub returns-in_err-write_area-clause-stopped : goal.returns-in_err-write_area-clause-stopped
+returns-in_err-write_area-clause-stopped g c told old payloads move =
+    let D = g.D.Disk in
+    let n = ready_calls c.args.at.now.superblock in
+    let a = D.fails c.args.disk.now in
+    let slot = c.args.slot.now in
+    let ready = c.in_ok-superblock.ensures in
+    let s = c.in_ok-superblock.superblock in
+    let new = new_area c.args.at.now.superblock (D.kept c.args.disk.now) (D.kept c.ready.new.disk) c.args.at.now.end old slot c.args.area.now c.args.numbers.now payloads s move ready.is
+    (ready.done told old move.is_at) in
+    let run = c.write_area.ensures.any_moment told old payloads new in
+    an_err c.from_residual-in_err-write_area.result
+    (stopped_early a (D.kept c.write_area.new.disk) (n + 2) (move_calls c.args.at.now.superblock c.args.at.now.end) old payloads (omega arith)
+    (failed_then a (D.fails c.ready.new.disk) n 2 (ready.made told) (c.in_err-write_area.ensures.failed told))
+    (λ image is. run.each image (g.met.D.Disk.counts_now c.write_area.new.disk (D.moment c.ready.new.disk) image told run.later is)))
+
+pub returns-in_err-numbered-clause-stopped : goal.returns-in_err-numbered-clause-stopped
+returns-in_err-numbered-clause-stopped g c told old payloads move =
+    let D = g.D.Disk in
+    let n = ready_calls c.args.at.now.superblock in
+    let a = D.fails c.args.disk.now in
+    let slot = c.args.slot.now in
+    let ready = c.in_ok-superblock.ensures in
+    let s = c.in_ok-superblock.superblock in
+    let new = new_area c.args.at.now.superblock (D.kept c.args.disk.now) (D.kept c.ready.new.disk) c.args.at.now.end old slot c.args.area.now c.args.numbers.now payloads s move ready.is
+    (ready.done told old move.is_at) in
+    let stage = c.in_ok-write_area.ensures.done told old payloads new in
+    let which = c.is_second-second.ensures in
+    let run = c.number_slot.ensures.any_moment told old payloads slot.place stage which in
+    let one : MakesCalls (n + 2) a (D.fails c.write_area.new.disk) =
+    made_then a (D.fails c.ready.new.disk) (D.fails c.write_area.new.disk) n 2 (ready.made told) (c.in_ok-write_area.ensures.made told) in
+    let z = superblock_at c.args.at.now.superblock c.args.at.now.end in
+    let m = shut_calls (slot_at (is_second z) z).gate + 2 in
+    let same = shut_same c.is_second-second.result s z ready.is which in
+    an_err c.from_residual-in_err-numbered.result
+    (stopped_early a (D.kept c.number_slot.new.disk) (n + 2 + m) (move_calls c.args.at.now.superblock c.args.at.now.end) old payloads (omega arith)
+    (failed_then a (D.fails c.write_area.new.disk) (n + 2) m one (subst (λ (k : ℕ). FailsWithin (k + 2) (D.fails c.write_area.new.disk)) same (c.in_err-numbered.ensures.failed told)))
+    (λ image is. run.each image (g.met.D.Disk.counts_now c.number_slot.new.disk (D.moment c.write_area.new.disk) image told run.later is)))
+
+pub returns-in_err-open_slot-clause-stopped : goal.returns-in_err-open_slot-clause-stopped
+returns-in_err-open_slot-clause-stopped g c told old payloads move =
+    let D = g.D.Disk in
+    let n = ready_calls c.args.at.now.superblock in
+    let a = D.fails c.args.disk.now in
+    let slot = c.args.slot.now in
+    let ready = c.in_ok-superblock.ensures in
+    let s = c.in_ok-superblock.superblock in
+    let new = new_area c.args.at.now.superblock (D.kept c.args.disk.now) (D.kept c.ready.new.disk) c.args.at.now.end old slot c.args.area.now c.args.numbers.now payloads s move ready.is
+    (ready.done told old move.is_at) in
+    let stage = c.in_ok-write_area.ensures.done told old payloads new in
+    let which = c.is_second-second.ensures in
+    let numbered = c.in_ok-numbered.ensures in
+    let next = move.number ∙ ap (λ (u : Superblock). number_after (current u)) (sym ready.is) in
+    let facts = numbered_facts c.is_second-second.result s c.in_ok-numbered.numbered slot which next numbered.is in
+    let last =
+    subst (λ (u : Superblock). Stages u (D.kept c.number_slot.new.disk) old slot.place payloads) (sym numbered.is) (numbered.done told old payloads slot.place stage which move.numbers_are move.fits) in
+    let one : MakesCalls (n + 2) a (D.fails c.write_area.new.disk) =
+    made_then a (D.fails c.ready.new.disk) (D.fails c.write_area.new.disk) n 2 (ready.made told) (c.in_ok-write_area.ensures.made told) in
+    let z = superblock_at c.args.at.now.superblock c.args.at.now.end in
+    let m = shut_calls (slot_at (is_second z) z).gate + 2 in
+    let same = shut_same c.is_second-second.result s z ready.is which in
+    let two : MakesCalls (n + 2 + m) a (D.fails c.number_slot.new.disk) =
+    made_then a (D.fails c.write_area.new.disk) (D.fails c.number_slot.new.disk) (n + 2) m one
+    (subst (λ (k : ℕ). MakesCalls (k + 2) (D.fails c.write_area.new.disk) (D.fails c.number_slot.new.disk)) same (numbered.made told)) in
+    an_err c.from_residual-in_err-open_slot.result
+    (stopped_then a (D.fails c.number_slot.new.disk) (D.kept c.open_slot.new.disk) (n + 2 + m) 2 old payloads two
+    (c.in_err-open_slot.ensures.stopped told old payloads slot.place last facts.0 facts.1))
 
 pub returns-clause-made : goal.returns-clause-made
 returns-clause-made g c told =

@@ -5,6 +5,7 @@ use Rattle.journal_areas.specs.Areas.{StandsFor}
 use Rattle.journal_moves.specs.Moves.{IsMove, IsEither, move_calls}
 use Rattle.journal_moves.proofs.Steps.{reserved_in}
 use Rattle.journal_moves.proofs.Outcomes.{made_same, failed_same, none_same}
+use Rattle.journal_moves.proofs.Stopped.{stopped_same}
 use Rattle.journal_moves.proofs.moving.write_pieces.Goals as goal
 
 pub returns-in_default-clause-any_moment : goal.returns-in_default-clause-any_moment
@@ -61,3 +62,10 @@ pub returns-in-Err-clause-failed : goal.returns-in-Err-clause-failed
 returns-in-Err-clause-failed g c told broken =
     let D = g.D.Disk in
     failed_same (D.fails c.args.disk.now) (D.fails c.reserve.new.self) (move_calls c.args.at.now.superblock c.args.at.now.end) (c.reserve.ensures.plan told) (c.in-Err.ensures.failed told)
+
+pub returns-in-Err-clause-stopped : goal.returns-in-Err-clause-stopped
+returns-in-Err-clause-stopped g c told old payloads move broken =
+    let D = g.D.Disk in
+    let again = subst (λ (k : Kept). IsMove c.args.at.now.superblock k c.args.at.now.end old c.args.slot.now c.args.area.now c.args.numbers.now payloads) (sym c.reserve.ensures.same) move in
+    stopped_same (D.fails c.args.disk.now) (D.fails c.reserve.new.self) (D.kept c.move_on.new.disk) (move_calls c.args.at.now.superblock c.args.at.now.end) old payloads
+    (c.reserve.ensures.plan told) (c.in-Err.ensures.stopped told old payloads again)

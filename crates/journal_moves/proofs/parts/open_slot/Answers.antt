@@ -2,13 +2,13 @@ use Rattle.std.proofs.Common.{ℕ, [], ◌∷◌, Some, sym, ◌∙◌, ap, subs
 use Rattle.disk_model.specs.Disk.{Kept, at_rest}
 use Rattle.disk_model.proofs.Moments.{weaker}
 use Rattle.xt_base.specs.Overlay.{overlay}
-use Rattle.journal_records.specs.Calls.{MayBeTorn}
+use Rattle.journal_records.specs.Calls.{MayBeTorn, IsTornAt}
 use Rattle.journal_areas.specs.Format.{open_gate}
 use Rattle.journal_areas.specs.Kept.{KeepsIn}
 use Rattle.journal_areas.specs.Sites.{put, slot_at}
 use Rattle.journal_moves.specs.Moves.{IsEither}
-use Rattle.journal_moves.proofs.Outcomes.{on_ok, both_ok}
-use Rattle.journal_moves.proofs.Steps.{open_torn, open_done}
+use Rattle.journal_moves.proofs.Outcomes.{on_ok, both_ok, both_err}
+use Rattle.journal_moves.proofs.Steps.{open_torn, open_stopped, open_done}
 use Rattle.journal_moves.proofs.parts.open_slot.Goals as goal
 
 pub returns-clause-done : goal.returns-clause-done
@@ -34,6 +34,17 @@ returns-clause-any_moment g c told old payloads place is which next =
     (λ image torn.
     open_torn s kept old place payloads is second which next image
     (subst (λ (n : ℕ). MayBeTorn n (open_gate ∷ []) kept.read image) c.slot_place.ensures torn))
+
+pub returns-clause-stopped : goal.returns-clause-stopped
+returns-clause-stopped g c told old payloads place is which next =
+    let D = g.D.Disk in
+    let s = c.args.superblock.now in
+    let kept = D.kept c.args.disk.now in
+    let left = D.kept c.write_synced.new.disk in
+    both_err c.write_synced.result (c.write_synced.ensures.failed told) (c.write_synced.ensures.torn told is.keeps.rests)
+    (λ failed torn.
+    open_stopped s kept old place payloads is c.args.second which next (D.fails c.args.disk.now) left failed
+    (subst (λ (n : ℕ). IsTornAt n (open_gate ∷ []) kept.read left) c.slot_place.ensures torn))
 
 pub returns-clause-made : goal.returns-clause-made
 returns-clause-made g c told =

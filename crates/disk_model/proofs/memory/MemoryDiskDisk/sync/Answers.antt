@@ -26,10 +26,10 @@ changes : (c : goal.After-self-3-1) → changes_of c.push.new.self.items c.self.
 changes c =
     ap (λ ns. changes_of ns c.self.inside.pieces.items) (notes c) ∙ changes_of-sync c.self.inside.notes.items c.self.inside.pieces.items
 
-kept : (c : goal.After-self-3-1) → kept_after (changes_of c.push.new.self.items c.self.inside.pieces.items) (at_rest c.self.inside.first) ≡ after_sync (memory_kept (seen c.self.inside))
+kept : (c : goal.After-self-3-1) → kept_after (changes_of c.push.new.self.items c.self.inside.pieces.items) (at_rest c.self.inside.contents.first) ≡ after_sync (memory_kept (seen c.self.inside))
 kept c =
-    ap (λ (cs : List Change). kept_after cs (at_rest c.self.inside.first)) (changes c)
-    ∙ kept_after-append (changes_of c.self.inside.notes.items c.self.inside.pieces.items) (Sync ∷ []) (at_rest c.self.inside.first)
+    ap (λ (cs : List Change). kept_after cs (at_rest c.self.inside.contents.first)) (changes c)
+    ∙ kept_after-append (changes_of c.self.inside.notes.items c.self.inside.pieces.items) (Sync ∷ []) (at_rest c.self.inside.contents.first)
 
 pub invariant_of-self-2 : goal.invariant_of-self-2
 invariant_of-self-2 c =
@@ -37,12 +37,12 @@ invariant_of-self-2 c =
     let all : length c.push.new.self.items ≡ vec_len c.push.new.self = sym c.push.new.self.ok.0 in
     record {
       pieces = omega (arith, old.pieces, ap pieces_length (notes c), pieces_length-append c.self.inside.notes.items Synced);
-      read_length = old.read_length ∙ ap (λ (k : Kept). length k.read) (sym (kept c));
+      read = old.read ∙ ap (λ (k : Kept). k.read) (sym (kept c));
       synced_notes = omega (arith, c.len-self-inside.ensures, all);
       written =
           ap (λ (k : Kept). k.written) (kept c)
           ∙ ap ranges_of (sym (drop_all c.len-self-inside.result c.push.new.self.items (omega (arith, c.len-self-inside.ensures, all))));
-      synced_length = old.read_length ∙ ap (λ (k : Kept). length k.synced) (sym (kept c));
+      synced_length = ap length c.read.ensures ∙ ap length old.read ∙ ap (λ (k : Kept). length k.synced) (sym (kept c));
       piece_room = omega (arith, old.piece_room);
       note_room = omega (arith, room_left c, old.note_room, c.push.ensures.capacity, notes_count c);
     }
@@ -55,5 +55,5 @@ returns-clause-syncs c told =
 pub returns-clause-time : goal.returns-clause-time
 returns-clause-time c told =
     let later = changes_of c.push.new.self.items c.self.inside.pieces.items in
-    let step = elapses c.self.inside.first (changes_of c.self.inside.notes.items c.self.inside.pieces.items) later Sync (changes c) in
-    subst (λ (m : Memory). Elapses (length m.changes) (length later) (MightHaveLeft m.first m.changes) (MightHaveLeft c.self.inside.first later) (kept_after later (at_rest c.self.inside.first))) c.self.view_is step
+    let step = elapses c.self.inside.contents.first (changes_of c.self.inside.notes.items c.self.inside.pieces.items) later Sync (changes c) in
+    subst (λ (m : Memory). Elapses (length m.changes) (length later) (MightHaveLeft m.first m.changes) (MightHaveLeft c.self.inside.contents.first later) (kept_after later (at_rest c.self.inside.contents.first))) c.self.view_is step

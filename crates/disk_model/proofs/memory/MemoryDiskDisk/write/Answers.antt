@@ -3,7 +3,8 @@ use Rattle.std.proofs.lemmas.Bool.{cond-true}
 use Rattle.std.proofs.lemmas.List.{drop-append-le}
 use Rattle.disk_model.specs.declared.note.Note.TheVariants.{Wrote}
 use Rattle.disk_model.specs.Disk.{Kept, Range, Elapses, at_rest, after_write, range_of}
-use Rattle.disk_model.specs.Laws.{length-overlay}
+use Rattle.xt_base.specs.Overlay.{overlay}
+use Rattle.disk_model.specs.Held.{Held}
 use Rattle.disk_model.specs.Changes.{Change, Write, Memory, kept_after, memory_kept, MightHaveLeft}
 use Rattle.disk_model.specs.Notes.{changes_of, pieces_length, ranges_of}
 use Rattle.disk_model.specs.Memory.{seen}
@@ -39,10 +40,14 @@ changes c =
     ∙ ap (λ (ps : List ℕ). changes_of (c.self.inside.notes.items ++ Wrote c.args.at (length c.args.piece.now) ∷ []) ps) (pieces c)
     ∙ changes_of-write c.self.inside.notes.items c.self.inside.pieces.items c.args.piece.now c.args.at c.self.invariant.pieces
 
-kept : (c : goal.After-change) → kept_after (changes_of c.push.new.self.items c.extend_from_slice.new.self.items) (at_rest c.self.inside.first) ≡ after_write c.args.at c.args.piece.now (memory_kept (seen c.self.inside))
+first : (c : goal.After-change) → c.write.new.self.first ≡ c.self.inside.contents.first
+first c = ap (λ (h : Held). h.first) c.write.ensures
+
+kept : (c : goal.After-change) → kept_after (changes_of c.push.new.self.items c.extend_from_slice.new.self.items) (at_rest c.write.new.self.first) ≡ after_write c.args.at c.args.piece.now (memory_kept (seen c.self.inside))
 kept c =
-    ap (λ (cs : List Change). kept_after cs (at_rest c.self.inside.first)) (changes c)
-    ∙ kept_after-append (changes_of c.self.inside.notes.items c.self.inside.pieces.items) (Write c.args.at c.args.piece.now ∷ []) (at_rest c.self.inside.first)
+    ap (λ (bytes : List ℕ). kept_after (changes_of c.push.new.self.items c.extend_from_slice.new.self.items) (at_rest bytes)) (first c)
+    ∙ ap (λ (cs : List Change). kept_after cs (at_rest c.self.inside.contents.first)) (changes c)
+    ∙ kept_after-append (changes_of c.self.inside.notes.items c.self.inside.pieces.items) (Write c.args.at c.args.piece.now ∷ []) (at_rest c.self.inside.contents.first)
 
 pub invariant_of-self : goal.invariant_of-self
 invariant_of-self c =
@@ -57,12 +62,10 @@ invariant_of-self c =
         ap pieces_length (notes c),
         pieces_length-append c.self.inside.notes.items (Wrote c.args.at (length c.args.piece.now)),
       );
-      read_length = omega (
-        arith,
-        old.read_length,
-        ap (λ (k : Kept). length k.read) (kept c),
-        length-overlay c.args.at c.args.piece.now (memory_kept (seen c.self.inside)).read,
-      );
+      read =
+          ap (λ (h : Held). h.read) c.write.ensures
+          ∙ ap (λ (bytes : List ℕ). overlay bytes c.args.at c.args.piece.now) old.read
+          ∙ sym (ap (λ (k : Kept). k.read) (kept c));
       synced_notes = omega (arith, old.synced_notes, ap length (notes c), size);
       written =
           ap (λ (k : Kept). k.written) (kept c)
@@ -84,5 +87,12 @@ returns-clause-writes c told =
 pub returns-clause-time : goal.returns-clause-time
 returns-clause-time c told =
     let later = changes_of c.push.new.self.items c.extend_from_slice.new.self.items in
-    let step = elapses c.self.inside.first (changes_of c.self.inside.notes.items c.self.inside.pieces.items) later (Write c.args.at c.args.piece.now) (changes c) in
-    subst (λ (m : Memory). Elapses (length m.changes) (length later) (MightHaveLeft m.first m.changes) (MightHaveLeft c.self.inside.first later) (kept_after later (at_rest c.self.inside.first))) c.self.view_is step
+    let step = elapses c.self.inside.contents.first (changes_of c.self.inside.notes.items c.self.inside.pieces.items) later (Write c.args.at c.args.piece.now) (changes c) in
+    let same = subst
+    (λ (bytes : List ℕ). Elapses (length (seen c.self.inside).changes) (length later) (MightHaveLeft (seen c.self.inside).first (seen c.self.inside).changes) (MightHaveLeft bytes later) (kept_after later (at_rest bytes)))
+    (sym (first c))
+    step in
+    subst
+    (λ (m : Memory). Elapses (length m.changes) (length later) (MightHaveLeft m.first m.changes) (MightHaveLeft c.write.new.self.first later) (kept_after later (at_rest c.write.new.self.first)))
+    c.self.view_is
+    same

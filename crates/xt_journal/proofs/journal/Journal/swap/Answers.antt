@@ -1,4 +1,4 @@
-use Rattle.std.proofs.Common.{arith}
+use Rattle.std.proofs.Common.{ap, arith, Err}
 use Rattle.journal_areas.specs.Sites.{area_size}
 use Rattle.xt_journal.proofs.Steps.{each_stands, keeps_any, keeps_in, place_of_end}
 use Rattle.xt_journal.proofs.Swapping.{ends_there, located_moved, new_area}
@@ -53,6 +53,13 @@ returns-in-Err-Broken-clause-broken g c told old keeps broken image is =
     c.move_to.ensures.any_moment told old (keeps_in c.args.self.superblock (D.kept c.args.self.disk) c.args.self.end old (c.args.self.ends told) keeps)
     (place_of_end c.args.self.superblock (D.kept c.args.self.disk) c.args.self.end old (c.args.self.ends told) keeps) in
     run.each image (g.met.D.Disk.counts_now c.move_to.new.disk (D.moment c.args.self.disk) image told run.later is)
+
+pub returns-in-Err-Broken-clause-stopped : goal.returns-in-Err-Broken-clause-stopped
+returns-in-Err-Broken-clause-stopped g c told old keeps broken =
+    let D = g.D.Disk in
+    c.in-Err-Broken.ensures.stopped told old (keeps_in c.args.self.superblock (D.kept c.args.self.disk) c.args.self.end old (c.args.self.ends told) keeps)
+    (place_of_end c.args.self.superblock (D.kept c.args.self.disk) c.args.self.end old (c.args.self.ends told) keeps)
+    (ap Err c.in-Err-Broken.field-0-is)
 
 pub returns-in-Err-Full-clause-any_moment : goal.returns-in-Err-Full-clause-any_moment
 returns-in-Err-Full-clause-any_moment g c told old keeps =
