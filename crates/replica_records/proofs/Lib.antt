@@ -6,3 +6,5 @@ pub mod SoundRows
 pub mod RecordLaws
 pub mod PayloadLength
 pub mod Placing
+pub mod Known
+pub mod BodyText

@@ -3,5 +3,6 @@ pub mod Sound
 pub mod RecordText
 pub mod RecordFields
 pub mod Places
+pub mod Known
 pub mod Logs
 pub mod Heads

@@ -23,4 +23,5 @@ pub use keeping::heads;
 pub use log::RecordLog;
 pub use object_versions::{Bodies, BodyErr};
 pub use payload::{read_record, record_bytes};
+pub use places::{BodyKey, Places, body_in};
 pub use xt_messages::{FileRow, FileTable, Folded, HeldPairs, Keep, Record};
