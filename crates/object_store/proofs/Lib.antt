@@ -1,5 +1,16 @@
+pub mod Filled
+pub mod Standing
+pub mod ReadBack
 pub mod Reading
+pub mod Stored
+pub mod Loaded
+pub mod Copied
+pub mod Stores
+pub mod Making
+pub mod Seeing
 pub mod Outcomes
 pub mod Again
 pub mod RecordKinds
 pub mod Swapped
+pub mod BareFolds
+pub mod Callers

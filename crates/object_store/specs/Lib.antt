@@ -1,9 +1,17 @@
+pub mod Bare
+pub mod Places
+pub mod Logs
 pub mod Texts
 pub mod Laws
 pub mod Refused
 pub mod KeptJournals
+pub mod Laid
 pub mod Access
 pub mod Loading
 pub mod Answers
 pub mod Puts
 pub mod Swaps
+pub mod Swapping
+pub mod FitProps
+pub mod Readers
+pub mod Seen

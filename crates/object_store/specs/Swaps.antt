@@ -9,6 +9,7 @@ use Rattle.journal_moves.specs.Answers.{full_need}
 use Rattle.journal_moves.specs.Moves.{FailsWithin, IsEither, MakesCalls, move_calls}
 use Rattle.xt_journal.specs.Access.{place_of, limit_of, superblock_of}
 use Rattle.xt_journal.specs.Format.{StandsFor}
+use Rattle.replica_records.specs.Known.{known_of}
 use Rattle.object_store.specs.declared.store.Store.{Store}
 use Rattle.object_store.specs.declared.errors.AppendErr.{AppendErr}
 use Rattle.object_store.specs.declared.errors.AppendErr.TheVariants as append
@@ -30,10 +31,10 @@ module _ {D : Type 0} {g : Ghosts D} where
   abbrev pub swap_calls : Store D g → ℕ
   swap_calls old = move_calls (superblock_of (journal_of old)) (place_of (journal_of old))
 
--- These records are in place of the old ones, in memory and on the disk, where they stand in a new area, and each crash leaves them from now
--- on. No call failed.
+-- What is known of these records is in place of the old ones; they stand on the disk in a new area, and each crash leaves them from now on. No
+-- call failed.
 pub record IsSwapped {D : Type 0} {g : Ghosts D} (old : Store D g) (made : List Record) (new : Store D g) : Type 0 where
-  pub records : records_of new ≡ made
+  pub records : records_of new ≡ known_of g.is_told made
   pub acknowledged : IsTrue g.is_told → (image : List ℕ) → IsImage (g.kept (disk_of new)) image → StandsFor image (texts_of made)
   pub area : area_of new ≡ new_area_of (superblock_of (journal_of old)) (place_of (journal_of old)) (size_of made)
   pub superblock : superblock_of (journal_of new) ≡ Some (moved (superblock_of (journal_of old)) (place_of (journal_of old)) (size_of made))

@@ -4,11 +4,13 @@ ghost use Rattle.xt_messages.specs.Limits.{FitsRecord};
 ghost use Rattle.xt_messages.specs.declared.record.Record.{Record};
 ghost use Rattle.xt_protocol.specs.Folds.{IsInPlace};
 ghost use Rattle.replica_records.specs.RecordText.{record_text};
-ghost use Rattle.xt_journal.specs.Reading.{payloads_of};
 ghost use Rattle.object_store.specs.Refused.{IsReadOf};
 ghost use Rattle.object_store.specs.declared.loading.Trouble.TheVariants.{OutOfMemory};
 
-use replica_records::{Folding, RecordErr, RecordLog, read_record};
+use crate::bare::strip;
+use crate::log::StoreLog;
+use crate::place::BodyPlace;
+use replica_records::{Folding, RecordErr, read_record};
 use std::alloc::{AllocError, Global};
 use xt_base::OutOfMemory;
 use xt_journal::Placed;
@@ -52,18 +54,21 @@ fn record_in_place(
     }
 }
 
-/// Reads the payloads as records, each in its place after those before it.
-pub fn read_all(alloc: Global, payloads: &[Placed]) -> Result<RecordLog, Trouble>
-    ensures { IsReadOf (payloads_of payloads.now) result }
+/// Reads the payloads as records, each in its place after those before it. Their bodies aren't kept.
+pub fn read_all(alloc: Global, payloads: &[Placed]) -> Result<StoreLog, Trouble>
+    ensures { IsReadOf payloads.now result }
 {
-    let mut log = RecordLog::new(alloc);
+    let mut log = StoreLog::new(alloc);
     let mut folding = Folding::new(alloc);
     for placed in payloads {
-        let Some(rec) = record_in_place(alloc, &folding, placed.bytes.as_slice())? else {
+        let bytes = placed.bytes.as_slice();
+        let Some(mut rec) = record_in_place(alloc, &folding, bytes)? else {
             return Err(Trouble::BadRecord(log.len()));
         };
         folding.take(alloc, &rec)?;
-        log.push(rec)?;
+        let place = BodyPlace::of(&rec, placed.gate, bytes.len());
+        strip(alloc, &mut rec);
+        log.push(rec, place)?;
     }
     Ok(log)
 }

@@ -1,61 +1,51 @@
 //! Other records in place of all that a store has.
-ghost use Rattle.std.specs.Prelude.{◌≡◌, IfOk};
+ghost use Rattle.std.specs.Prelude.{IfOk};
 ghost use Rattle.std.specs.List.{All};
 ghost use Rattle.xt_messages.specs.Limits.{FitsRecord};
-ghost use Rattle.replica_records.specs.Logs.{records_in};
-ghost use Rattle.object_store.specs.Texts.{texts_of};
+ghost use Rattle.object_store.specs.Swapping.{IsMadeOf};
 
+use crate::bare::strip;
 use crate::errors::AppendErr;
+use crate::log::StoreLog;
+use crate::place::BodyPlace;
 use crate::store::Store;
 use disk_model::Disk;
-use replica_records::{RecordLog, record_bytes};
+use replica_records::record_bytes;
 use std::alloc::Global;
 use xt_base::{Octets, OutOfMemory};
 use xt_messages::Record;
 
-/// The bytes of each of these records.
-fn payloads_of(alloc: Global, records: &[Record]) -> Result<Vec<Octets>, OutOfMemory>
-    requires { All FitsRecord records.now }
-    ensures { IfOk result (λ made. made.items ≡ texts_of records.now) }
-{
-    let mut made = Vec::with_capacity(alloc, records.len())?;
-    for rec in records {
-        made.push(record_bytes(alloc, rec)?)?;
-    }
-    Ok(made)
-}
-
-/// These records with the places of their bodies.
-fn log_of(alloc: Global, records: Vec<Record>) -> Result<RecordLog, OutOfMemory>
-    ensures { IfOk result (λ log. records_in log ≡ records.items) }
-{
-    let mut log = RecordLog::new(alloc);
-    for rec in records {
-        log.push(rec)?;
-    }
-    Ok(log)
-}
-
 /// What a swap makes in memory before it begins.
 #[derive(Drop)]
-struct Made {
+pub struct Made {
+    /// The bytes of each record.
     payloads: Vec<Octets>,
-    log: RecordLog,
+    /// The records, with the places of their bodies from the start of the area.
+    log: StoreLog,
 }
 
-/// All that needs memory, before the journal is asked.
+/// All that needs memory, before the journal is asked. A record's body is in its payload alone from then on.
 fn prepared(alloc: Global, records: Vec<Record>) -> Result<Made, OutOfMemory>
     requires { All FitsRecord records.items }
-    ensures { IfOk result (λ made. (made.payloads.items ≡ texts_of records.items)
-        × (records_in made.log ≡ records.items)) }
+    ensures { IfOk result (IsMadeOf records.items) }
 {
-    let payloads = payloads_of(alloc, records.as_slice())?;
-    let log = log_of(alloc, records)?;
+    let mut payloads = Vec::with_capacity(alloc, records.len())?;
+    let mut log = StoreLog::new(alloc);
+    let mut gate: u64 = 0;
+    for mut rec in records {
+        let bytes = record_bytes(alloc, &rec)?;
+        let len = bytes.as_slice().len();
+        let place = BodyPlace::of(&rec, gate, len);
+        strip(alloc, &mut rec);
+        log.push(rec, place)?;
+        payloads.push(bytes)?;
+        gate = gate.saturating_add(5 + len as u64);
+    }
     Ok(Made { payloads, log })
 }
 
 impl<D: Disk> Store<D> {
-    ghost use Rattle.std.specs.Prelude.{List};
+    ghost use Rattle.std.specs.Prelude.{◌≡◌, List};
     ghost use Rattle.xt_base.specs.Faults.{counted};
     ghost use Rattle.xt_journal.specs.Access.{limit_of};
     ghost use Rattle.xt_messages.specs.declared.record.Record.{Record};
@@ -72,15 +62,18 @@ impl<D: Disk> Store<D> {
         requires { AreRecords records.items }
         ensures { Swaps self records.items result }
     {
-        let Ok(made) = prepared(alloc, records) else {
+        let Ok(mut made) = prepared(alloc, records) else {
             return Err(AppendErr::OutOfMemory { store: self });
         };
         let Store { journal, log } = self;
         match journal.swap(alloc, made.payloads.as_slice()) {
-            Ok(journal) => Ok(Store {
-                journal,
-                log: made.log,
-            }),
+            Ok(journal) => {
+                made.log.move_on(journal.area().place);
+                Ok(Store {
+                    journal,
+                    log: made.log,
+                })
+            }
             Err(xt_journal::AppendErr::Broken { count, disk }) => Err(AppendErr::Broken {
                 count,
                 disk,

@@ -1,12 +1,12 @@
 ghost use Rattle.xt_protocol.specs.Forgetting.{rewritten};
 ghost use Rattle.object_store.specs.Access.{records_of};
-ghost use Rattle.object_store.specs.Swaps.{Swaps};
 ghost use Rattle.object_store.specs.Texts.{AreRecords};
+ghost use Rattle.store_compact.specs.Compacting.{IsCompacted};
 
 use crate::counting::rewritten_size;
 use crate::rewriting::rewritten;
 use disk_model::Disk;
-use object_store::{AppendErr, Store};
+use object_store::{AppendErr, LookErr, Store};
 use std::alloc::Global;
 use xt_messages::Keep;
 
@@ -15,14 +15,15 @@ use xt_messages::Keep;
 ///
 /// `keep` has to name enough for the rewritten records to be in their places: what the heads of all files name, at least. `Full` comes
 /// exactly where the new area has no room within the limit of the store's journal. Memory can only run out before the first device call. In
-/// both cases the store is as it was. Whether there is room is found by counting, before a body is copied.
+/// both cases the store is as it was. Whether there is room is found by counting, before a body is read. Each body that is kept is read
+/// once, and a read that fails ends it as `Broken`, before anything is written.
 pub fn compact<D: Disk>(
     alloc: Global,
     store: Store<D>,
     keep: &Keep,
 ) -> Result<Store<D>, AppendErr<D>>
     requires { AreRecords (rewritten keep.now (records_of store)) }
-    ensures { Swaps store (rewritten keep.now (records_of store)) result }
+    ensures { IsCompacted keep.now store result }
 {
     let Ok(size) = rewritten_size(alloc, store.log(), keep) else {
         return Err(AppendErr::OutOfMemory { store });
@@ -31,8 +32,13 @@ pub fn compact<D: Disk>(
         let limit = store.limit();
         return Err(AppendErr::Full { store, need, limit });
     }
-    match rewritten(alloc, store.log(), keep) {
+    match rewritten(alloc, &store, keep) {
         Ok(made) => store.swap(alloc, made),
-        Err(_) => Err(AppendErr::OutOfMemory { store }),
+        Err(LookErr::Failed) => {
+            let mut disk = store.close();
+            let count = disk.count_fault();
+            Err(AppendErr::Broken { count, disk })
+        }
+        Err(LookErr::OutOfMemory) => Err(AppendErr::OutOfMemory { store }),
     }
 }

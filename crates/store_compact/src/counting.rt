@@ -1,4 +1,4 @@
-//! How long an area of the rewritten records is, which is counted without a copy of a body. A size stays at `u64::MAX`, which stands for
+//! How long an area of the rewritten records is, which is counted before a body is read. A size stays at `u64::MAX`, which stands for
 //! all that pass it.
 
 ghost use Rattle.std.specs.Prelude.{◌≡◌, ◌+◌, IfOk, OnOk, filter, length, map};
@@ -8,14 +8,15 @@ ghost use Rattle.xt_messages.specs.Limits.{FitsFile, FitsRecord};
 ghost use Rattle.xt_protocol.specs.Folds.{logged_of};
 ghost use Rattle.xt_protocol.specs.Forgetting.{is_kept, records_of_row, records_of_rows, rewritten, row_without, stage_of, view_of};
 ghost use Rattle.xt_protocol.specs.SeenBodies.{body_by};
-ghost use Rattle.replica_records.specs.Logs.{records_in};
 ghost use Rattle.replica_records.specs.RecordText.{record_text};
+ghost use Rattle.object_store.specs.Logs.{unread};
 ghost use Rattle.object_store.specs.Swaps.{size_of};
 ghost use Rattle.store_compact.specs.Counting.{bytes_of};
 
 use crate::rewriting::is_logged;
+use object_store::StoreLog;
 use object_versions::SoughtBodies;
-use replica_records::{RecordLog, fold, record_bytes};
+use replica_records::{fold, record_bytes};
 use std::alloc::Global;
 use xt_base::{Copies, FileId, OutOfMemory};
 use xt_messages::{FileRow, Keep, Location, ObjectVersion, Record};
@@ -70,9 +71,9 @@ fn count_view(
 }
 
 /// How many bytes were put last as this body of the file: none where no record put it, which can't happen to a body that is held.
-fn body_length(log: &RecordLog, file: &FileId, version: ObjectVersion) -> usize
+fn body_length(log: &StoreLog, file: &FileId, version: ObjectVersion) -> usize
     ensures { result ≡
-        length (body_by (records_in log.now) file.now version.object version.version) }
+        length (body_by (unread log.now) file.now version.object version.version) }
 {
     match log.body_length(file, version.object, &version.version) {
         Some(bytes) => bytes,
@@ -81,10 +82,10 @@ fn body_length(log: &RecordLog, file: &FileId, version: ObjectVersion) -> usize
 }
 
 /// Counts the record that puts a body of the file.
-fn count_body(size: &mut u64, log: &RecordLog, file: &FileId, version: ObjectVersion)
+fn count_body(size: &mut u64, log: &StoreLog, file: &FileId, version: ObjectVersion)
     requires { FitsFile file.now }
     ensures { counted size.new ≡ counted (size.old + (5 + length (record_text
-        (stage_of (body_by (records_in log.now)) file.now version)))) }
+        (stage_of (body_by (unread log.now)) file.now version)))) }
 {
     let bytes = body_length(log, file, version);
     *size = size
@@ -93,10 +94,10 @@ fn count_body(size: &mut u64, log: &RecordLog, file: &FileId, version: ObjectVer
 }
 
 /// Counts the held bodies of a file that are kept.
-fn count_bodies(size: &mut u64, log: &RecordLog, row: &FileRow, keep: &SoughtBodies<'_>)
+fn count_bodies(size: &mut u64, log: &StoreLog, row: &FileRow, keep: &SoughtBodies<'_>)
     requires { FitsFile row.now.file }
     ensures { counted size.new ≡ counted (size.old
-        + bytes_of (map (stage_of (body_by (records_in log.now)) row.now.file)
+        + bytes_of (map (stage_of (body_by (unread log.now)) row.now.file)
         (filter (is_kept keep.now row.now.file) row.now.held))) }
 {
     for version in &row.held.versions {
@@ -110,14 +111,14 @@ fn count_bodies(size: &mut u64, log: &RecordLog, row: &FileRow, keep: &SoughtBod
 fn count_row(
     alloc: Global,
     size: &mut u64,
-    log: &RecordLog,
+    log: &StoreLog,
     row: &FileRow,
     keep: &SoughtBodies<'_>,
 ) -> Result<(), OutOfMemory>
     requires { All FitsRecord
-        (records_of_row (body_by (records_in log.now)) (row_without keep.now row.now)) }
+        (records_of_row (body_by (unread log.now)) (row_without keep.now row.now)) }
     ensures { OnOk result (counted size.new ≡ counted (size.old
-        + bytes_of (records_of_row (body_by (records_in log.now)) (row_without keep.now row.now)))) }
+        + bytes_of (records_of_row (body_by (unread log.now)) (row_without keep.now row.now)))) }
 {
     count_view(alloc, size, &row.file, &row.location)?;
     count_bodies(size, log, row, keep);
@@ -133,14 +134,14 @@ fn count_row(
 fn count_rows(
     alloc: Global,
     size: &mut u64,
-    log: &RecordLog,
+    log: &StoreLog,
     rows: &[FileRow],
     keep: &SoughtBodies<'_>,
 ) -> Result<(), OutOfMemory>
     requires { All FitsRecord
-        (records_of_rows (body_by (records_in log.now)) (map (row_without keep.now) rows.now)) }
+        (records_of_rows (body_by (unread log.now)) (map (row_without keep.now) rows.now)) }
     ensures { OnOk result (counted size.new ≡ counted (size.old
-        + bytes_of (records_of_rows (body_by (records_in log.now)) (map (row_without keep.now) rows.now)))) }
+        + bytes_of (records_of_rows (body_by (unread log.now)) (map (row_without keep.now) rows.now)))) }
 {
     for row in rows {
         count_row(alloc, size, log, row, keep)?;
@@ -148,11 +149,11 @@ fn count_rows(
     Ok(())
 }
 
-/// How many bytes an area of the rewritten records has, at most `u64::MAX`. No body is copied.
+/// How many bytes an area of the rewritten records has, at most `u64::MAX`. No body is read.
 #[tactic(auto, unfolding(xt_protocol::specs::Forgetting::rewritten))]
-pub fn rewritten_size(alloc: Global, log: &RecordLog, keep: &Keep) -> Result<u64, OutOfMemory>
-    requires { All FitsRecord (rewritten keep.now (records_in log.now)) }
-    ensures { IfOk result (λ size. size ≡ counted (size_of (rewritten keep.now (records_in log.now)))) }
+pub fn rewritten_size(alloc: Global, log: &StoreLog, keep: &Keep) -> Result<u64, OutOfMemory>
+    requires { All FitsRecord (rewritten keep.now (unread log.now)) }
+    ensures { IfOk result (λ size. size ≡ counted (size_of (rewritten keep.now (unread log.now)))) }
 {
     let keep = SoughtBodies::of(keep);
     let folded = fold(alloc, log.as_slice())?;

@@ -1,38 +1,41 @@
-use Rattle.std.proofs.Common.{sym, ◌∙◌, ap, subst, arith}
+use Rattle.std.proofs.Common.{sym, ◌∙◌, ap, subst, length, arith}
+use Rattle.std.proofs.lemmas.List.{length-map}
 use Rattle.xt_messages.specs.declared.record.Folded.{Folded}
-use Rattle.xt_protocol.specs.Folds.{folded_after, fold_of, IsInPlace}
-use Rattle.xt_protocol.proofs.Folds.{fold_of-nothing, fold_of-push}
-use Rattle.replica_records.specs.Logs.{records_in}
-use Rattle.object_store.specs.Texts.{texts_of, AreRecords}
-use Rattle.object_store.proofs.Reading.{none_are, are-push, texts_more, first_bad}
+use Rattle.xt_protocol.specs.Folds.{IsInPlace}
+use Rattle.object_store.specs.Bare.{bare}
+use Rattle.object_store.specs.Places.{IsPair}
+use Rattle.object_store.proofs.Filled.{pair_of_bare}
+use Rattle.object_store.proofs.Loaded.{all_so_far, none_so_far, one_so_far}
+use Rattle.object_store.proofs.Reading.{first_bad}
 use Rattle.object_store.proofs.loading.read_all.Goals as goal
 
 pub loop-placed-init : goal.loop-placed-init
-loop-placed-init c =
-    let none = c.new-log.ensures in
-    record {
-      texts = ap texts_of none;
-      are = subst AreRecords (sym none) none_are;
-      says = c.new-folding.ensures ∙ sym fold_of-nothing ∙ ap fold_of (sym none);
-    }
+loop-placed-init c = none_so_far c.new-log.result c.new-folding.result c.new-log.ensures.bare c.new-log.ensures.places c.new-folding.ensures
+
+pub of-place-requires : goal.of-place-requires
+of-place-requires c =
+    let is = rw c.in-Some.is at c.in_ok-rec.ensures.found in
+    record { fits = is.0; whole = ap length is.1 }
+
+pub push-requires : goal.push-requires
+push-requires c =
+    subst (λ r. IsPair r c.of-place.result) (sym c.strip.ensures) (pair_of_bare c.in-Some.rec c.of-place.result (ap (λ p. p.len) c.of-place.ensures))
 
 pub loop-placed-preserved : goal.loop-placed-preserved
 loop-placed-preserved c =
-    let was = c.loop-placed.invariant in
-    let old = records_in c.loop-placed.log in
-    let rec = c.in-Some.rec in
     let is = rw c.in-Some.is at c.in_ok-rec.ensures.found in
-    let more = c.in_ok-push.ensures.ok in
-    record {
-      texts = ap texts_of more ∙ texts_more old rec c.args.payloads.now c.loop-placed.placed-index c.placed-item.result (omega arith) c.placed-item.is (sym c.as_slice.ensures ∙ is.1) was.texts;
-      are = subst AreRecords (sym more) (are-push old rec was.are is.0 (subst (λ (f : Folded). IsInPlace f rec) was.says is.2));
-      says = c.in_ok-take.ensures.ok ∙ ap (λ (f : Folded). folded_after f rec) was.says ∙ sym (fold_of-push old rec) ∙ ap fold_of (sym more);
-    }
+    one_so_far c.args.payloads.now c.loop-placed.placed-index c.placed-item.result c.loop-placed-test.true c.placed-item.is c.loop-placed.log c.push.new.self
+    c.loop-placed.folding c.take.new.self c.loop-placed.invariant c.in-Some.rec is.0 (sym c.as_slice-bytes.ensures ∙ is.1) is.2
+    c.strip.new.rec c.of-place.result c.in_ok-take.ensures.ok c.strip.ensures c.of-place.ensures c.in_ok-push.ensures.bare c.in_ok-push.ensures.places
 
 pub returns-in_default : goal.returns-in_default
 returns-in_default c =
     let was = c.loop-placed.invariant in
     let bad = rw c.in_default.is at c.in_ok-rec.ensures.bad in
-    first_bad (records_in c.loop-placed.log) c.len.result c.args.payloads.now c.loop-placed.placed-index c.placed-item.result
-    c.len.ensures (omega arith) c.placed-item.is was.texts was.are
-    (λ rec fits text place. bad rec fits (c.as_slice.ensures ∙ text) (subst (λ (f : Folded). IsInPlace f rec) (sym was.says) place))
+    first_bad was.is.records c.len.result c.args.payloads.now c.loop-placed.placed-index c.placed-item.result
+    (omega (arith, c.len.ensures, ap length was.is.bare, length-map was.is.records bare)) c.loop-placed-test.true c.placed-item.is was.is.texts was.is.are
+    (λ rec fits text place. bad rec fits (c.as_slice-bytes.ensures ∙ text) (subst (λ (f : Folded). IsInPlace f rec) (sym was.says) place))
+
+pub returns : goal.returns
+returns c =
+    all_so_far c.args.payloads.now c.loop-placed.placed-index c.loop-placed.log c.loop-placed.folding (omega (arith, c.loop-placed-test.false)) c.loop-placed.invariant
