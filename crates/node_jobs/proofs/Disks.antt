@@ -22,7 +22,9 @@ use Rattle.xt_journal.proofs.Unique.{reads_stand}
 use Rattle.object_store.specs.declared.store.Store.{Store}
 use Rattle.object_store.specs.Access.{disk_of, records_of, journal_of as journal_in}
 use Rattle.object_store.specs.Loading.{IsLoadOf}
-use Rattle.object_store.specs.Texts.{texts_of}
+use Rattle.object_store.specs.Texts.{texts_of, AreRecords}
+use Rattle.object_store.proofs.Stored.{known_there}
+use Rattle.object_store.proofs.Stores.{known_are}
 use Rattle.world_spec.specs.World.{Deed}
 use Rattle.node_runs.specs.Keeping.{KeepsWith, KeptInTurn, from_start, then_next}
 use Rattle.node_runs.specs.Runs.{JournalAt, grown}
@@ -163,20 +165,23 @@ module _ {D : Type 0} {g : Ghosts D}
       → (IsTrue g.is_told → StandsIn (superblock_of from) (g.kept before).read (payloads_of placed))
       → (IsTrue g.is_told → LeavesOnly g.moment g.left_since before (journal.disk_of from) (LeavesAsBefore (g.kept before)))
       → g.fault_count (journal.disk_of from) ≡ g.fault_count before → IsLoadOf from payloads (Ok store) → IsLoaded (medium_of g) before limit store
-  loaded_is before limit from placed payloads store reads are room stood loads faults is = record {
-    are = is.2;
-    room = ap (λ (j : Journal D g). limit_of j) is.0 ∙ room;
-    stood = λ told.
-        subst (λ (super : Option Superblock). StandsIn super (g.kept before).read (texts_of (records_of store))) (sym (ap (λ (j : Journal D g). superblock_of j) is.0))
-        (subst (λ (ps : List (List ℕ)). StandsIn (superblock_of from) (g.kept before).read ps) (sym (is.1 ∙ are)) (stood told));
-    comes = record {
-      stood = λ told. subst (λ (ps : List (List ℕ)). StandsFor (g.kept before).read ps) (sym (is.1 ∙ are)) (reads_stand (g.kept before).read placed (reads told).reads);
-      loads = λ told.
-          subst (λ (j : Journal D g). LeavesOnly g.moment g.left_since before (journal.disk_of j) (LeavesAsBefore (g.kept before))) (sym is.0) (loads told);
-      kept = keeps_now g.is_told g.kept g.moment g.left_since (disk_of store) (records_of store) store.keeps (λ image told left. only_now (disk_of store) image told left);
-      faults = ap (λ (j : Journal D g). g.fault_count (journal.disk_of j)) is.0 ∙ faults;
-    };
-  }
+  loaded_is before limit from placed payloads store reads are room stood loads faults is =
+      let there : IsTrue g.is_told → texts_of (records_of store) ≡ payloads_of placed =
+      λ told. ap texts_of (is.known ∙ known_there g.is_told is.records told) ∙ is.texts ∙ are in
+      record {
+        are = subst AreRecords (sym is.known) (known_are g.is_told is.records is.are);
+        room = ap (λ (j : Journal D g). limit_of j) is.journal_is ∙ room;
+        stood = λ told.
+            subst (λ (super : Option Superblock). StandsIn super (g.kept before).read (texts_of (records_of store))) (sym (ap (λ (j : Journal D g). superblock_of j) is.journal_is))
+            (subst (λ (ps : List (List ℕ)). StandsIn (superblock_of from) (g.kept before).read ps) (sym (there told)) (stood told));
+        comes = record {
+          stood = λ told. subst (λ (ps : List (List ℕ)). StandsFor (g.kept before).read ps) (sym (there told)) (reads_stand (g.kept before).read placed (reads told).reads);
+          loads = λ told.
+              subst (λ (j : Journal D g). LeavesOnly g.moment g.left_since before (journal.disk_of j) (LeavesAsBefore (g.kept before))) (sym is.journal_is) (loads told);
+          kept = keeps_now g.is_told g.kept g.moment g.left_since (disk_of store) (records_of store) store.keeps (λ image told left. only_now (disk_of store) image told left);
+          faults = ap (λ (j : Journal D g). g.fault_count (journal.disk_of j)) is.journal_is ∙ faults;
+        };
+      }
 
 -- where the records of a loaded store are on the disk, once that of its boot was put
 module _ {D : Type 0} {g : Ghosts D} where

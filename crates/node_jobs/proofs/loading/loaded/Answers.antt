@@ -2,9 +2,10 @@ use Rattle.std.proofs.Common.{ap, ◌∙◌, inr, subst, sym, ◌≡◌, List}
 use Rattle.xt_journal.specs.declared.placed.Placed.{Placed}
 use Rattle.xt_journal.specs.Access.{disk_of}
 use Rattle.xt_journal.specs.Reading.{payloads_of}
-use Rattle.xt_journal.proofs.Slices.{keeps_slice}
 use Rattle.xt_messages.specs.declared.status.Status.TheVariants as status
+use Rattle.object_store.specs.Loading.{ArePlaced}
 use Rattle.object_store.specs.Texts.{IsFirstBad}
+use Rattle.object_store.proofs.Callers.{are_placed}
 use Rattle.node_jobs.specs.Disks.{IsUnloaded}
 use Rattle.node_jobs.proofs.Disks.{left_unloaded, loaded_is, medium_of}
 use Rattle.node_jobs.proofs.Places.{bad_record}
@@ -12,7 +13,10 @@ use Rattle.node_jobs.proofs.loading.loaded.Goals as goal
 
 pub load-requires-2 : goal.load-requires-2
 load-requires-2 g c = λ told.
-    keeps_slice (g.D.Disk.kept (disk_of c.in-Ok.loaded.0)) c.as_slice.result.now c.in-Ok.loaded.1.items c.as_slice.ensures.value (c.in-Ok.ensures.keeps told)
+    let journal = c.in-Ok.loaded.0 in
+    let loaded = c.in-Ok.ensures in
+    subst (λ (ps : List Placed). ArePlaced journal ps) (sym c.as_slice.ensures.value)
+    (are_placed journal (g.D.Disk.kept c.args.disk).read c.in-Ok.loaded.1.items (loaded.keeps told) (loaded.reads told) (loaded.superblock told))
 
 pub returns-in-Ok-load-clause-loads : goal.returns-in-Ok-load-clause-loads
 returns-in-Ok-load-clause-loads g c =
