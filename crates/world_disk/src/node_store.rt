@@ -7,10 +7,12 @@ ghost use Rattle.xt_messages.specs.Limits.{FitsRecord};
 ghost use Rattle.xt_messages.specs.declared.record.Record.{Record};
 ghost use Rattle.xt_protocol.specs.Folds.{fold_of, IsInPlace, body_kept};
 ghost use Rattle.xt_journal.specs.Access as journal;
-ghost use Rattle.xt_journal.specs.Format.{StandsIn, KeepsJournal};
+ghost use Rattle.xt_journal.specs.Format.{StandsIn};
 ghost use Rattle.xt_journal.specs.Loaded.{FailedCall, MadeCalls, IsReady};
 ghost use Rattle.xt_journal.specs.Reading.{payloads_of};
 ghost use Rattle.object_store.specs.Access.{records_of, disk_of, journal_of};
+ghost use Rattle.object_store.specs.Bare.{bare_of};
+ghost use Rattle.object_store.specs.Loading.{ArePlaced};
 ghost use Rattle.object_store.specs.Texts.{texts_of};
 ghost use Rattle.world_hull.specs.Answers.{IsFullOrMemory, IsFullExactly, GivesBody};
 ghost use Rattle.world_hull.specs.Appends.{kept_by};
@@ -73,8 +75,7 @@ fn journal_on(
     ensures reads { IfOk result (λ found.
         StandsIn (journal.superblock_of found.0) (memory_kept disk).read
         (payloads_of found.1.items)) }
-    ensures keeps { IfOk result (λ found.
-        KeepsJournal (memory_kept (journal.disk_of found.0)) (payloads_of found.1.items)) }
+    ensures placed { IfOk result (λ found. ArePlaced found.0 found.1.items) }
     ensures ready { IfOk result (λ found. IsReady (memory_kept (journal.disk_of found.0)).read) }
     ensures loaded { IfOk result (λ found. IsLoadedWith disk.first (journal.disk_of found.0)) }
     ensures plan { IfOk result (λ found.
@@ -251,9 +252,9 @@ impl NodeStore {
         Ok(restarted(alloc, left)?)
     }
 
-    /// A copy of the records, in order.
+    /// Copies of the records without their bodies, in order. No body is read.
     pub fn copies(&self, alloc: Global) -> Result<Vec<Record>, OutOfMemory>
-        ensures { IfOk result (λ made. made.items ≡ self.now.records) }
+        ensures { IfOk result (λ made. made.items ≡ bare_of self.now.records) }
     {
         let mut made = Vec::new(alloc);
         for rec in self.store.records() {
@@ -262,7 +263,7 @@ impl NodeStore {
         Ok(made)
     }
 
-    /// The body that was put last as this version of this object of the file.
+    /// The body that was put last as this version of this object of the file, read from the disk.
     pub fn body(
         &self,
         alloc: Global,
