@@ -1,7 +1,10 @@
-use Rattle.xt_journal.specs.Access.{disk_of}
-use Rattle.xt_journal.proofs.Slices.{keeps_slice}
+use Rattle.std.proofs.Common.{List, sym, subst}
+use Rattle.xt_journal.specs.declared.placed.Placed.{Placed}
+use Rattle.object_store.specs.Loading.{ArePlaced}
+use Rattle.object_store.proofs.Callers.{are_placed}
 use Rattle.node_tests.proofs.refusals.is_bad.Goals as goal
 
 pub load-requires-2 : goal.load-requires-2
-load-requires-2 g c = λ told.
-    keeps_slice (g.D.Disk.kept (disk_of c.in-Ok.journal)) c.as_slice.result.now c.in-Ok.payloads.items c.as_slice.ensures.value (c.in-Ok.ensures.keeps told)
+load-requires-2 g c told =
+    subst (λ (ps : List Placed). ArePlaced c.in-Ok.journal ps) (sym c.as_slice.ensures.value)
+    (are_placed c.in-Ok.journal (g.D.Disk.kept c.args.disk).read c.in-Ok.payloads.items (c.in-Ok.ensures.keeps told) (c.in-Ok.ensures.reads told) (c.in-Ok.ensures.superblock told))
