@@ -226,9 +226,11 @@ def words_changed(rng):
     if b"--turns" not in words[:-1] and words[:1] not in ([b"replay"], [b"audit"]):
         words += [b"--turns", b"1"]
     for at, w in enumerate(words[:-1]):
-        # a long lease is a long wait
+        # a long lease is a long wait, and so are many turns
         if w == b"--lease" and len(words[at + 1]) > 4:
             words[at + 1] = b"1000"
+        if w == b"--turns" and words[at + 1].isdigit() and 9 < int(words[at + 1]) < 2**62:
+            words[at + 1] = b"9"
     return words
 
 

@@ -21,6 +21,7 @@ use std::alloc::Global;
 use std::marker::Model;
 use xt_base::{Address, Boot, DIR_NODE, NodeId, OutOfMemory, Times};
 use xt_messages::Msg;
+use xt_parts::PartBuffer;
 
 /// A client's end of a link: where nodes are reached, the half joined messages, how many messages it has sent in this boot, and how
 /// many receives it has made of those that it may make. Contracts see these, and its times.
@@ -28,6 +29,7 @@ use xt_messages::Msg;
 pub struct Driver {
     alloc: Global,
     sender: Sender,
+    part: PartBuffer,
     times: Times,
     pub(crate) listener: Listener,
     buf: Vec<u8>,
@@ -76,6 +78,7 @@ impl Driver {
                 boot,
                 count: 0,
             },
+            part: PartBuffer::new(alloc)?,
             times,
             listener: Listener {
                 node,
@@ -127,6 +130,7 @@ impl Driver {
         mail(
             self.alloc,
             &mut self.sender,
+            &mut self.part,
             self.listener.ears.book(),
             msg,
             link,
@@ -152,6 +156,7 @@ impl Driver {
         mail_all(
             self.alloc,
             &mut self.sender,
+            &mut self.part,
             self.listener.ears.book(),
             msgs,
             link,

@@ -11,11 +11,13 @@ use node_mail::{Book, Sender};
 use std::alloc::Global;
 use xt_base::OutOfMemory;
 use xt_messages::Msg;
+use xt_parts::PartBuffer;
 
 /// Sends a message, if its receiver has an address, and reports whether each of its parts was taken.
 pub fn mail<L: Link>(
     alloc: Global,
     sender: &mut Sender,
+    part: &mut PartBuffer,
     book: &Book,
     msg: &Msg,
     link: &mut L,
@@ -35,7 +37,7 @@ pub fn mail<L: Link>(
 {
     match book.address(msg.to) {
         None => Ok(false),
-        Some(address) => sender.post(alloc, &address, msg, link),
+        Some(address) => sender.post(alloc, part, &address, msg, link),
     }
 }
 
@@ -43,6 +45,7 @@ pub fn mail<L: Link>(
 pub fn mail_all<L: Link>(
     alloc: Global,
     sender: &mut Sender,
+    part: &mut PartBuffer,
     book: &Book,
     msgs: &[Msg],
     link: &mut L,
@@ -60,7 +63,7 @@ pub fn mail_all<L: Link>(
         (Sends (L.sent link.old) (L.sent link.new) (L.loss_count link.old) (L.loss_count link.new))) }
 {
     for msg in msgs {
-        mail(alloc, sender, book, msg, link)?;
+        mail(alloc, sender, part, book, msg, link)?;
     }
     Ok(())
 }

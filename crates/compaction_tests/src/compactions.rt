@@ -45,10 +45,10 @@ enum Ended<D: Disk> {
 
 /// Loads the records on a disk, and compacts them with the bodies that the heads of their files name.
 fn compacted<D: Disk>(alloc: Global, disk: D) -> Option<Ended<D>> {
-    let Ok((journal, placed)) = Journal::load(alloc, disk, LIMIT) else {
+    let Ok((journal, extents)) = Journal::load(alloc, disk, LIMIT) else {
         return None;
     };
-    let Ok(store) = Store::load(alloc, journal, placed.as_slice()) else {
+    let Ok(store) = Store::load(alloc, journal, extents.as_slice()) else {
         return None;
     };
     let Ok(folded) = fold(alloc, store.records()) else {
@@ -68,10 +68,10 @@ fn compacted<D: Disk>(alloc: Global, disk: D) -> Option<Ended<D>> {
 
 /// How many records are on a disk, where each is a start and the last one is this; 0 where there are other records, or none.
 fn starts<D: Disk>(alloc: Global, disk: D, last: u64) -> usize {
-    let Ok((journal, placed)) = Journal::load(alloc, disk, LIMIT) else {
+    let Ok((journal, extents)) = Journal::load(alloc, disk, LIMIT) else {
         return 0;
     };
-    let Ok(store) = Store::load(alloc, journal, placed.as_slice()) else {
+    let Ok(store) = Store::load(alloc, journal, extents.as_slice()) else {
         return 0;
     };
     match store.records() {
@@ -111,8 +111,8 @@ fn bytes_compacted(rt: &impl Abort, alloc: Global, bytes: &[u8]) -> Octets {
 /// These bytes once a start is appended to the journal in them.
 fn with_start(rt: &impl Abort, alloc: Global, bytes: &[u8], boot: u8) -> Octets {
     let old = disk(rt, alloc, bytes, &[], None);
-    let (journal, placed) = Journal::load(alloc, old, LIMIT).ok().expect(rt, OTHERWISE);
-    drop(placed);
+    let (journal, extents) = Journal::load(alloc, old, LIMIT).ok().expect(rt, OTHERWISE);
+    drop(extents);
     let journal = journal.append(alloc, &[1, 0, 0, 0, 0, 0, 0, 0, boot]);
     let journal = journal.ok().expect(rt, OTHERWISE);
     journal.close().image().expect(rt, OTHERWISE)
@@ -174,7 +174,7 @@ fn a_compaction_goes_well(rt: HostRuntime) {
     }
 }
 
-/// Loading makes three calls of the disk, so that those of the compaction come from the fourth on. Before the last two, which write
+/// Loading makes two calls of the disk, so that those of the compaction come from the third on. Before the last two, which write
 /// and sync the gate of the slot, no byte that a crash may leave makes the new area count. What the failed call wrote is read, too.
 #[test]
 fn a_call_of_a_compaction_fails(rt: HostRuntime) {
@@ -182,7 +182,7 @@ fn a_call_of_a_compaction_fails(rt: HostRuntime) {
         let bytes = two_starts(&rt, rt.alloc(), *last);
         for call in 1..11 {
             if call <= *calls {
-                let old = disk(&rt, rt.alloc(), bytes.as_slice(), &[3 + call], None);
+                let old = disk(&rt, rt.alloc(), bytes.as_slice(), &[2 + call], None);
                 let (faults, left) = broken(rt.alloc(), old).expect(&rt, OTHERWISE);
                 assert!(rt; faults == 1);
                 let read = left.image().expect(&rt, OTHERWISE);

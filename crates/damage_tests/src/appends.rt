@@ -4,11 +4,12 @@ use crate::OTHERWISE;
 use crate::bytes::hex;
 use crate::journals::{LIMIT, Loading, load, sound_disk};
 use disk_model::{Disk, MemoryDisk, Stop};
+use journal_moves::Extent;
 use std::alloc::Global;
 use std::process::Abort;
 use std::test::*;
 use xt_base::{CallList, Octets};
-use xt_journal::{AppendErr, Journal, Placed};
+use xt_journal::{AppendErr, Journal};
 
 /// A journal of two records: a first start, and the bytes of object 0 in the version ((1, 1), 1).
 const OLD: &str = "
@@ -55,11 +56,39 @@ fn appended<D: Disk>(alloc: Global, disk: D, payload: &[u8]) -> Option<(u64, D)>
     }
 }
 
+/// Whether this payload is at an extent of the journal.
+fn is_payload<D: Disk>(
+    alloc: Global,
+    journal: &Journal<D>,
+    extent: Extent,
+    payload: &[u8],
+) -> bool {
+    let Some(end) = extent.at.checked_add(extent.len as u64) else {
+        return false;
+    };
+    if end > journal.end() {
+        return false;
+    }
+    let Ok(mut ahead) = journal.read_ahead(alloc) else {
+        return false;
+    };
+    let Ok(mut bytes) = vec![in alloc; 0; extent.len] else {
+        return false;
+    };
+    ahead.read(extent.at, bytes.as_mut_slice()).is_ok() && bytes.as_slice() == payload
+}
+
 /// Whether two payloads are there, and then this one, if it is to stand.
-fn are_payloads(placed: &[Placed], payload: &[u8], stands: bool) -> bool {
-    match placed {
+fn are_payloads<D: Disk>(
+    alloc: Global,
+    journal: &Journal<D>,
+    extents: &[Extent],
+    payload: &[u8],
+    stands: bool,
+) -> bool {
+    match extents {
         [_, _] => !stands,
-        [_, _, last] => stands && last.bytes.as_slice() == payload,
+        [_, _, last] => stands && is_payload(alloc, journal, *last, payload),
         _ => false,
     }
 }
@@ -67,7 +96,9 @@ fn are_payloads(placed: &[Placed], payload: &[u8], stands: bool) -> bool {
 /// Whether the payloads on a disk are so.
 fn has_payloads<D: Disk>(alloc: Global, disk: D, payload: &[u8], stands: bool) -> bool {
     match Journal::load(alloc, disk, LIMIT) {
-        Ok((_, placed)) => are_payloads(placed.as_slice(), payload, stands),
+        Ok((journal, extents)) => {
+            are_payloads(alloc, &journal, extents.as_slice(), payload, stands)
+        }
         Err(_) => false,
     }
 }
@@ -120,7 +151,7 @@ fn an_append_goes_well(rt: HostRuntime) {
     }
 }
 
-/// Loading makes three calls of the disk, so that those of the append are the fourth to the seventh. Before the third of these
+/// Loading makes two calls of the disk, so that those of the append are the third to the sixth. Before the third of these
 /// opens the gate, no byte that a crash may leave is the record's gate. What the failed call wrote is read, too.
 #[test]
 fn a_call_of_an_append_fails(rt: HostRuntime) {
@@ -128,7 +159,7 @@ fn a_call_of_an_append_fails(rt: HostRuntime) {
         let payload = payload(&rt, rt.alloc(), text);
         let payload = payload.as_slice();
         for call in 1..5 {
-            let disk = append(&rt, rt.alloc(), payload, &[3 + call], None, 1);
+            let disk = append(&rt, rt.alloc(), payload, &[2 + call], None, 1);
             let read = disk.image().expect(&rt, OTHERWISE);
             assert_left(&rt, rt.alloc(), read.as_slice(), payload, call >= 3);
             for fill in &FILLS {

@@ -35,7 +35,7 @@ pub enum Loading {
 
 /// Loads the records on a disk.
 pub fn load<D: Disk>(alloc: Global, disk: D) -> Loading {
-    let (journal, placed) = match Journal::load(alloc, disk, LIMIT) {
+    let (journal, extents) = match Journal::load(alloc, disk, LIMIT) {
         Ok(loaded) => loaded,
         Err(LoadErr::NotOurs { first, .. }) => {
             return Loading::NotOurs(u64::from_be_bytes(first));
@@ -44,10 +44,10 @@ pub fn load<D: Disk>(alloc: Global, disk: D) -> Loading {
         Err(LoadErr::Damaged { place, .. }) => return Loading::Damaged(place),
         Err(LoadErr::DiskFault { .. } | LoadErr::OutOfMemory { .. }) => return Loading::Nothing,
     };
-    match Store::load(alloc, journal, placed.as_slice()) {
+    match Store::load(alloc, journal, extents.as_slice()) {
         Ok(store) => Loading::Records(store.records().len()),
         Err(StoreErr::BadRecord { index, .. }) => Loading::BadRecord(index),
-        Err(StoreErr::OutOfMemory { .. }) => Loading::Nothing,
+        Err(StoreErr::Broken { .. } | StoreErr::OutOfMemory { .. }) => Loading::Nothing,
     }
 }
 

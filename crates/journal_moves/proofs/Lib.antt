@@ -2,3 +2,4 @@ pub mod Areas
 pub mod Outcomes
 pub mod Steps
 pub mod Stopped
+pub mod Underway

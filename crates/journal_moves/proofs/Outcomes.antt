@@ -1,5 +1,5 @@
 -- A fact on a result, from another one; and the device calls of one part after another.
-use Rattle.std.proofs.Common.{◌≡◌, ◌≢◌, ⊎_elim, ℕ, ◌+◌, ◌-◌, ◌<◌, ◌≤◌, ◌==◌, Bool, Result, Ok, Err, OnOk, OnErr, sym, ◌∙◌, ap, arith}
+use Rattle.std.proofs.Common.{◌≡◌, ◌≢◌, ⊎_elim, ℕ, ◌+◌, ◌-◌, ◌<◌, ◌≤◌, ◌==◌, Bool, Result, Ok, Err, IfOk, IsErrOf, OnOk, OnErr, is_err, false, refl, sym, ◌∙◌, ap, arith}
 use Rattle.std.proofs.lemmas.Bool.{cases_lt, cond-true, cond-false, eq-eqb, ne_eqb}
 use Rattle.journal_records.specs.Calls.{GoesOn, IsFirstFailure}
 use Rattle.journal_areas.specs.Format.{open_gate}
@@ -8,6 +8,20 @@ use Rattle.journal_moves.specs.Moves.{MakesCalls, FailsWithin, shut_calls}
 pub on_ok : {T E P Q : Type 0} (r : Result T E) → OnOk r P → (P → Q) → OnOk r Q
 on_ok (Ok x) p f = f p
 on_ok (Err e) p f = p
+
+pub if_ok : {T E : Type 0} (P Q : T → Type 0) (r : Result T E) → IfOk r P → ((x : T) → is_err r ≡ false → P x → Q x) → IfOk r Q
+if_ok P Q (Ok x) p f = f x refl p
+if_ok P Q (Err e) p f = p
+
+pub an_ok : {T E P : Type 0} (r : Result T E) → (is_err r ≡ false → P) → OnOk r P
+an_ok (Ok x) f = f refl
+an_ok (Err e) f = tt
+
+-- the error, in another result
+pub same_err : {T S E : Type 0} (e f : E) → IsErrOf {T = T} {E = E} (Err e) f → IsErrOf {T = S} {E = E} (Err e) f
+same_err e f is =
+    let same : e ≡ f = cc in
+    ap Err same
 
 pub both_ok : {T E P Q R : Type 0} (r : Result T E) → OnOk r P → OnOk r Q → (P → Q → R) → OnOk r R
 both_ok (Ok x) p q f = f p q

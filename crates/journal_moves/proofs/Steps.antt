@@ -1,5 +1,7 @@
 -- What a crash leaves in each part of a move, and what the disk has once it is done.
-use Rattle.std.proofs.Common.{◌≡◌, ◌≢◌, ◌⊎◌, inl, inr, ℕ, ◌+◌, ◌<◌, ◌≤◌, Bool, true, false, Option, Some, None, List, [], ◌∷◌, ◌++◌, length, drop, get_or, refl, sym, ◌∙◌, ap, subst, arith, append_assoc, length-append, ◌==◌}
+use Rattle.std.proofs.Common.{◌≡◌, ◌≢◌, ◌⊎◌, inl, inr, ℕ, ◌+◌, ◌-◌, ◌<◌, ◌≤◌, Bool, true, false, Option, Some, None, List, [], ◌∷◌, ◌++◌, length, drop, get_or, refl, sym, ◌∙◌, ap, subst, arith, append_assoc, take-append-drop, ◌==◌}
+use Rattle.std.specs.Prelude.{IsTrue}
+use Rattle.std.specs.List.{All}
 use Rattle.std.proofs.lemmas.List.{get_or-drop}
 use Rattle.std.proofs.lemmas.Bool.{cases_eq, cond-true, cond-false, eq-eqb, ne_eqb}
 use Rattle.std.proofs.Math.Logic.{∥∥₁_map, ∥∥₁_elim}
@@ -14,13 +16,20 @@ use Rattle.journal_areas.specs.declared.superblock.Slot.{Slot}
 use Rattle.journal_areas.specs.declared.superblock.Superblock.{Superblock}
 use Rattle.journal_areas.specs.Format.{open_gate, records, end_of, AreGiven}
 use Rattle.journal_areas.specs.Superblocks.{base_of, current, number_bytes, slot_in}
-use Rattle.journal_areas.specs.Areas.{IsJournal, StandsFor, end_in}
+use Rattle.journal_areas.specs.Areas.{IsJournal, StandsFor, end_by, end_in}
 use Rattle.journal_areas.specs.Kept.{KeepsIn}
-use Rattle.journal_areas.specs.Sites.{slot_of, new_slot, site, is_second, put, slot_at, slot_place, superblock_at, number_after, area_size, with_slot}
-use Rattle.journal_areas.proofs.Slots.{current_shut, still_second}
+use Rattle.journal_areas.specs.Sites.{area_of, slot_of, new_slot, site, is_second, put, slot_at, slot_place, superblock_at, number_after, area_size, with_slot, moved, need_for}
+use Rattle.journal_areas.proofs.Slots.{current_open, current_shut, still_second}
 use Rattle.journal_areas.proofs.Moving.{Agrees, torn_agrees, written_agrees, written_there, records_stay, standing, area_written, gate_left, gate_same, numbers_left, gate_opened, numbers_written, put_same, slot_before, long, here, slot_here}
 use Rattle.journal_areas.proofs.Adding.{new_record, not_yet, still_none, has_one, site_away}
 use Rattle.journal_moves.specs.Moves.{shut_calls, FailsWithin, IsMove, IsMoveStopped, end_ready, IsEither, IsAt, IsNewArea, Stages, IsNextSlot, Fits, shut_gate, with_shut, numbered}
+use Rattle.journal_moves.specs.Answers.{located_after}
+use Rattle.journal_moves.specs.declared.gathered.Gathered.{Gathered}
+use Rattle.journal_moves.specs.declared.moving.Located.{Located}
+use Rattle.journal_moves.specs.Gathering.{IsThere, gathered, size_of_area}
+use Rattle.journal_moves.specs.Writing.{IsApart, IsWritten, StaysOutside}
+use Rattle.journal_moves.proofs.Areas.{all_in, size_area}
+use Rattle.journal_moves.proofs.Underway.{agrees_of, all_before_end, all_ready, all_stay, apart, stays_of, stays_on, stays_same}
 use Rattle.journal_moves.proofs.Stopped.{torn_image, gate_filled, open_is, shut_is}
 
 -- ---- journals at rest
@@ -77,35 +86,56 @@ module _ (kept : Kept) (end : ℕ) (old : List (List ℕ)) (is : IsAt None kept 
         ends = omega (arith, is.ends);
       }
 
+-- the bytes before the gate stay
+pub add_stays : (bytes : List ℕ) (end : ℕ) → StaysOutside bytes (overlay (overlay bytes (end + 1) new_record) end (open_gate ∷ [])) end (end + 57)
+add_stays bytes end =
+    let first = overlay bytes (end + 1) new_record in
+    let image = overlay first end (open_gate ∷ []) in
+    let record_only : StaysOutside bytes first (end + 1) (end + 1 + 56) = stays_of bytes first (end + 1) (end + 1 + 56) (written_agrees bytes (end + 1) new_record) in
+    let gate_only : StaysOutside first image end (end + 1) = stays_of first image end (end + 1) (written_agrees first end (open_gate ∷ [])) in
+    stays_on bytes first image end (end + 57) end (end + 1)
+    (stays_on bytes bytes first end (end + 57) (end + 1) (end + 1 + 56) (stays_same bytes end (end + 57)) record_only (omega arith) (omega arith))
+    gate_only (omega arith) (omega arith)
+
 -- ---- the area is written
 
-length-area : (piece : List ℕ) (payloads : List (List ℕ)) → piece ≡ records payloads ++ 0 ∷ [] → length piece ≡ area_size payloads
-length-area piece payloads are = ap length are ∙ length-append (records payloads) (0 ∷ [])
+module _ (s : Superblock) (kept : Kept) (old : List (List ℕ)) (place : ℕ) (payloads : List Gathered) (lists : List (List ℕ)) (is : IsNewArea s kept old place payloads lists) where
+  size_is : size_of_area payloads ≡ area_size lists
+  size_is = sym (ap area_size is.are ∙ size_area true kept.read payloads (all_in true kept.read (area_of (Some s) is.end) payloads (λ told. is.there)))
 
-module _ (s : Superblock) (kept : Kept) (old : List (List ℕ)) (place : ℕ) (piece : List ℕ) (payloads : List (List ℕ)) (is : IsNewArea s kept old place piece payloads) where
   away : (j : IsJournal (Some s) kept.read old) → (base_of s ≤ place)
-      × ((place + length piece ≤ (standing kept.read s old j).start) ⊎ ((standing kept.read s old j).start + length (records (standing kept.read s old j).list) < place))
-  away j =
-      site_away kept.read s old (standing kept.read s old j) is.end (length piece) place is.is_at.ends
-      (is.goes ∙ ap (λ (n : ℕ). site (Some s) is.end n) (sym (length-area piece payloads is.are)))
+      × ((place + area_size lists ≤ (standing kept.read s old j).start) ⊎ ((standing kept.read s old j).start + length (records (standing kept.read s old j).list) < place))
+  away j = site_away kept.read s old (standing kept.read s old j) is.end (area_size lists) place is.is_at.ends is.goes
 
-  area_image : (image : List ℕ) → Agrees kept.read image place (place + length piece) → ∥ IsJournal (Some s) image old ∥₁
-  area_image image agrees =
-      ∥∥₁_map is.is_at.keeps.journal (λ j. area_written kept.read s old (standing kept.read s old j) image place (place + length piece) agrees (away j).0 (away j).1)
+  area_image : (image : List ℕ) → StaysOutside kept.read image place (place + size_of_area payloads) → ∥ IsJournal (Some s) image old ∥₁
+  area_image image stays =
+      let agrees = subst (λ (n : ℕ). Agrees kept.read image place (place + n)) size_is (agrees_of kept.read image place (place + size_of_area payloads) stays) in
+      ∥∥₁_map is.is_at.keeps.journal (λ j. area_written kept.read s old (standing kept.read s old j) image place (place + area_size lists) agrees (away j).0 (away j).1)
 
-  pub area_torn : (image : List ℕ) → MayBeTorn place piece kept.read image → StandsFor image old
-  area_torn image torn = stands (Some s) image old (area_image image (torn_agrees kept.read place piece image torn))
+  pub area_stays : (image : List ℕ) → StaysOutside kept.read image place (place + size_of_area payloads) → StandsFor image old
+  area_stays image stays = stands (Some s) image old (area_image image stays)
 
-  pub area_done : Stages s (at_rest (overlay kept.read place piece)) old place payloads
-  area_done =
-      let image = overlay kept.read place piece in
-      let tail = drop (place + length piece) kept.read in
+  -- what the disk has of the payloads isn't where they go
+  pub area_apart : All (IsApart kept.read place (place + size_of_area payloads)) payloads
+  area_apart =
+      subst (λ (n : ℕ). All (IsApart kept.read place (place + n)) payloads) (sym size_is)
+      (apart kept.read s is.end (area_size lists) place payloads is.there is.goes)
+
+  pub area_done : (new : Kept) → new ≡ at_rest new.read
+      → IsWritten kept.read new.read place (place + size_of_area payloads) (records (gathered true kept.read payloads) ++ 0 ∷ []) → Stages s new old place lists
+  area_done new rests written =
+      let all = records (gathered true kept.read payloads) in
+      let tail = drop (length (all ++ 0 ∷ [])) (drop place new.read) in
       record {
-        keeps = keeps_now (Some s) image old (area_image image (written_agrees kept.read place piece));
+        keeps = record { rests = rests; journal = area_image new.read written.stays };
         given = is.given;
         far = ∥∥₁_elim is.is_at.keeps.journal (hlevel props) (λ j. (away j).0);
         more = tail;
-        there = written_there kept.read place piece ∙ ap (λ (l : List ℕ). l ++ tail) is.are ∙ append_assoc (records payloads) (0 ∷ []) tail;
+        there =
+            sym (take-append-drop (length (all ++ 0 ∷ [])) (drop place new.read))
+            ∙ ap (λ (l : List ℕ). l ++ tail) written.there
+            ∙ append_assoc all (0 ∷ []) tail
+            ∙ ap (λ (l : List (List ℕ)). records l ++ 0 ∷ tail) (sym is.are);
       }
 
 -- ---- the slot is written
@@ -305,12 +335,19 @@ site_ready : (super : Option Superblock) (end size : ℕ) → site super end siz
 site_ready None end size = omega arith
 site_ready (Some s) end size = refl
 
-pub new_area : (super : Option Superblock) (kept after : Kept) (end : ℕ) (old : List (List ℕ)) (slot : Slot) (area numbers : List ℕ) (payloads : List (List ℕ)) (s : Superblock)
-    → IsMove super kept end old slot area numbers payloads → s ≡ superblock_at super end → IsAt (Some (superblock_at super end)) after (end_ready super end) old
-    → IsNewArea s after old slot.place area payloads
-new_area super kept after end old slot area numbers payloads s move is there =
-    subst (λ (u : Superblock). IsNewArea u after old slot.place area payloads) (sym is)
-    (record { end = end_ready super end; is_at = there; given = move.given; goes = move.goes ∙ site_ready super end (area_size payloads); are = move.are })
+pub new_area : (super : Option Superblock) (kept after : Kept) (end : ℕ) (old : List (List ℕ)) (slot : Slot) (payloads : List Gathered) (numbers : List ℕ) (lists : List (List ℕ)) (s : Superblock)
+    → IsMove super kept end old slot payloads numbers lists → s ≡ superblock_at super end → IsAt (Some (superblock_at super end)) after (end_ready super end) old
+    → StaysOutside kept.read after.read end (end + 57) → IsNewArea s after old slot.place payloads lists
+new_area super kept after end old slot payloads numbers lists s move is there stays =
+    subst (λ (u : Superblock). IsNewArea u after old slot.place payloads lists) (sym is)
+    (record {
+      end = end_ready super end;
+      is_at = there;
+      given = move.given;
+      goes = move.goes ∙ site_ready super end (area_size lists);
+      there = all_ready super end kept.read after.read payloads stays.long move.there;
+      are = move.are ∙ sym (all_stay kept.read after.read end (end + 57) stays payloads (all_before_end kept.read super end (end + 57) payloads move.there));
+    })
 
 -- a reservation first
 pub reserved_in : {D : Type 0} (moment : D → ℕ) (left_since : D → ℕ → List ℕ → Type 0) (before after : D) (super : Option Superblock) (kept same : Kept) (old : List (List ℕ))
@@ -325,19 +362,49 @@ slot_counts : (super : Option Superblock) (end : ℕ) → slot_of super ≡ curr
 slot_counts None end = refl
 slot_counts (Some s) end = refl
 
-pub is_move : (super : Option Superblock) (kept : Kept) (end : ℕ) (old : List (List ℕ)) (slot : Slot) (area numbers : List ℕ) (payloads : List (List ℕ)) → KeepsIn super kept old
-    → end ≡ end_in super old → AreGiven payloads → slot ≡ new_slot super end (area_size payloads) → area ≡ records payloads ++ 0 ∷ [] → numbers ≡ number_bytes slot → Fits slot
-    → IsMove super kept end old slot area numbers payloads
-is_move super kept end old slot area numbers payloads keeps ends given is are numbers_are fits = record {
-  is_at = record { keeps = keeps; ends = ends };
-  given = given;
-  opens = ap (λ (o : Slot). o.gate) is;
-  number = ap (λ (o : Slot). o.number) is ∙ ap number_after (slot_counts super end);
-  goes = ap (λ (o : Slot). o.place) is;
-  are = are;
-  numbers_are = numbers_are;
-  fits = fits;
-}
+pub is_move : (told : Bool) → IsTrue told → (super : Option Superblock) (kept : Kept) (end : ℕ) (old : List (List ℕ)) (slot : Slot) (payloads : List Gathered) (numbers : List ℕ) → KeepsIn super kept old
+    → end ≡ end_in super old → AreGiven (gathered told kept.read payloads) → (IsTrue told → All (IsThere kept.read (area_of super end)) payloads)
+    → slot ≡ new_slot super end (size_of_area payloads) → numbers ≡ number_bytes slot → Fits slot → IsMove super kept end old slot payloads numbers (gathered told kept.read payloads)
+is_move told is_told super kept end old slot payloads numbers keeps ends given there is numbers_are fits =
+    let size = size_area told kept.read payloads (all_in told kept.read (area_of super end) payloads there) in
+    record {
+      is_at = record { keeps = keeps; ends = ends };
+      given = given;
+      opens = ap (λ (o : Slot). o.gate) is;
+      number = ap (λ (o : Slot). o.number) is ∙ ap number_after (slot_counts super end);
+      goes = ap (λ (o : Slot). o.place) is ∙ ap (site super end) (sym size);
+      there = there is_told;
+      are = ap (λ (b : Bool). gathered b kept.read payloads) is_told;
+      numbers_are = numbers_are;
+      fits = fits;
+    }
+
+-- ---- where the journal is once it has moved
+
+located : Option Superblock → ℕ → Located
+located super end = record { superblock = super; end = end }
+
+module _ (super : Option Superblock) (end size : ℕ) (slot : Slot) (s : Superblock) (lists : List (List ℕ)) (is : s ≡ with_slot (superblock_at super end) slot) (slot_is : slot ≡ new_slot super end size)
+    (long : area_size lists ≡ size) where
+  pub located_is : record { superblock = Some s; end = slot.place + (slot.first - 1) } ≡ located_after super end (area_size lists)
+  unfolding located
+  located_is =
+      let last : site super end size + (size - 1) ≡ need_for super end size - 1 = omega (arith, long) in
+      ap (λ (u : Superblock). located (Some u) (slot.place + (slot.first - 1))) is
+      ∙ ap (λ (o : Slot). located (Some (with_slot (superblock_at super end) o)) (o.place + (o.first - 1))) slot_is
+      ∙ ap (λ (n : ℕ). located (Some (moved super end size)) n) last
+      ∙ ap (λ (n : ℕ). located_after super end n) (sym long)
+
+  pub ends_is : slot.place + (slot.first - 1) ≡ end_in (Some s) lists
+  ends_is =
+      let before = superblock_at super end in
+      let new = new_slot super end size in
+      let counts : current (with_slot before new) ≡ Some new = current_open (is_second before) before new refl refl (ap number_after (slot_counts super end)) in
+      let last : site super end size + (size - 1) ≡ site super end size + length (records lists) = omega (arith, long) in
+      ap (λ (o : Slot). o.place + (o.first - 1)) slot_is
+      ∙ last
+      ∙ ap (λ (o : Option Slot). end_by (with_slot before new) o lists) (sym counts)
+      ∙ ap (λ (u : Superblock). end_in (Some u) lists) (sym (is ∙ ap (λ (o : Slot). with_slot before o) slot_is))
 
 -- how many calls shut its slot
 pub shut_same : (second : Bool) (s first : Superblock) → s ≡ first → second ≡ is_second s → shut_calls (slot_at second s).gate ≡ shut_calls (slot_at (is_second first) first).gate

@@ -1,2 +1,5 @@
 pub mod Moves
 pub mod Answers
+pub mod Extents
+pub mod Gathering
+pub mod Writing

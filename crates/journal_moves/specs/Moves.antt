@@ -1,5 +1,6 @@
 -- What the parts of a move to a new area do to a disk.
-use Rattle.std.specs.Prelude.{ℕ, ◌+◌, ◌<◌, ◌^◌, ◌≤◌, ◌≡◌, ◌⊎◌, ◌==◌, ◌&&◌, nat_le, Bool, if◌then◌else◌, Option, Some, None, List, [], ◌∷◌, ◌++◌, drop}
+use Rattle.std.specs.Prelude.{ℕ, ◌+◌, ◌<◌, ◌^◌, ◌≤◌, ◌≡◌, ◌⊎◌, ◌==◌, ◌&&◌, nat_le, Bool, true, if◌then◌else◌, Option, Some, None, List, ◌∷◌, ◌++◌, drop}
+use Rattle.std.specs.List.{All}
 use Rattle.disk_model.specs.Disk.{Kept, IsFilled}
 use Rattle.journal_records.specs.Calls.{GoesOn, AllSucceed, IsFirstFailure}
 use Rattle.journal_areas.specs.declared.superblock.Slot.{Slot}
@@ -7,8 +8,10 @@ use Rattle.journal_areas.specs.declared.superblock.Superblock.{Superblock}
 use Rattle.journal_areas.specs.Format.{open_gate, records, AreGiven}
 use Rattle.journal_areas.specs.Superblocks.{base_of, current, number_bytes}
 use Rattle.journal_areas.specs.Areas.{StandsFor, end_in}
-use Rattle.journal_areas.specs.Sites.{site, superblock_at, is_second, slot_at, put, number_after, area_size}
+use Rattle.journal_areas.specs.Sites.{area_of, site, superblock_at, is_second, slot_at, put, number_after, area_size}
 use Rattle.journal_areas.specs.Kept.{KeepsIn}
+use Rattle.journal_moves.specs.declared.gathered.Gathered.{Gathered}
+use Rattle.journal_moves.specs.Gathering.{IsThere, area_calls, gathered}
 
 -- a crash leaves the one list or the other
 abbrev pub IsEither : List (List ℕ) → List (List ℕ) → List ℕ → Type 0
@@ -24,13 +27,14 @@ abbrev pub end_ready : Option Superblock → ℕ → ℕ
 end_ready None end = end + 56
 end_ready (Some s) end = end
 
--- this piece is an area of these payloads, and it goes to this place
-pub record IsNewArea (s : Superblock) (kept : Kept) (old : List (List ℕ)) (place : ℕ) (piece : List ℕ) (payloads : List (List ℕ)) : Type 0 where
+-- An area of these payloads goes to this place, and they are these lists of bytes.
+pub record IsNewArea (s : Superblock) (kept : Kept) (old : List (List ℕ)) (place : ℕ) (payloads : List Gathered) (lists : List (List ℕ)) : Type 0 where
   pub end : ℕ
   pub is_at : IsAt (Some s) kept end old
-  pub given : AreGiven payloads
-  pub goes : place ≡ site (Some s) end (area_size payloads)
-  pub are : piece ≡ records payloads ++ 0 ∷ []
+  pub given : AreGiven lists
+  pub goes : place ≡ site (Some s) end (area_size lists)
+  pub there : All (IsThere kept.read (area_of (Some s) end)) payloads
+  pub are : lists ≡ gathered true kept.read payloads
 
 -- The journal is still the old one, and an area of these payloads stands at this place, where nothing counts so far.
 pub record Stages (s : Superblock) (kept : Kept) (old : List (List ℕ)) (place : ℕ) (payloads : List (List ℕ)) : Type 0 where
@@ -63,14 +67,15 @@ pub record IsNextSlot (s : Superblock) (slot : Slot) (place : ℕ) : Type 0 wher
   pub number : slot.number ≡ number_after (current s)
   pub place_is : slot.place ≡ place
 
--- A journal is to move to a new area, of these payloads: what is written in each part.
-pub record IsMove (super : Option Superblock) (kept : Kept) (end : ℕ) (old : List (List ℕ)) (slot : Slot) (area numbers : List ℕ) (payloads : List (List ℕ)) : Type 0 where
+-- A journal is to move to a new area of these payloads, which are these lists of bytes: what is written in each part.
+pub record IsMove (super : Option Superblock) (kept : Kept) (end : ℕ) (old : List (List ℕ)) (slot : Slot) (payloads : List Gathered) (numbers : List ℕ) (lists : List (List ℕ)) : Type 0 where
   pub is_at : IsAt super kept end old
-  pub given : AreGiven payloads
+  pub given : AreGiven lists
   pub opens : slot.gate ≡ open_gate
   pub number : slot.number ≡ number_after (current (superblock_at super end))
-  pub goes : slot.place ≡ site super end (area_size payloads)
-  pub are : area ≡ records payloads ++ 0 ∷ []
+  pub goes : slot.place ≡ site super end (area_size lists)
+  pub there : All (IsThere kept.read (area_of super end)) payloads
+  pub are : lists ≡ gathered true kept.read payloads
   pub numbers_are : numbers ≡ number_bytes slot
   pub fits : Fits slot
 
@@ -94,11 +99,11 @@ ready_calls (Some s) = 0
 abbrev pub shut_calls : ℕ → ℕ
 shut_calls gate = if gate == open_gate then 2 else 0
 
--- how many a whole move takes: the superblock, the area, the slot that doesn't count, and its gate
-abbrev pub move_calls : Option Superblock → ℕ → ℕ
-move_calls super end =
+-- how many a whole move to an area of payloads of these sizes takes: the superblock, the area, the slot that doesn't count, and its gate
+abbrev pub move_calls : Option Superblock → ℕ → List ℕ → ℕ
+move_calls super end sizes =
     let s = superblock_at super end in
-    ready_calls super + 2 + (shut_calls (slot_at (is_second s) s).gate + 2) + 2
+    ready_calls super + area_calls sizes + (shut_calls (slot_at (is_second s) s).gate + 2) + 2
 
 -- ---- a move that breaks
 

@@ -1,23 +1,24 @@
-ghost use Rattle.std.specs.Prelude.{◌≡◌, ◌≤◌, ◌<◌, ◌^◌, ◌++◌, ◌∷◌, [], IfOk, OnOk, MatchOption, length};
+ghost use Rattle.std.specs.Prelude.{◌≡◌, ◌≤◌, ◌<◌, ◌+◌, ◌^◌, ◌++◌, [], IfOk, OnOk, MatchOption};
+ghost use Rattle.std.specs.Vec.{vec_capacity};
 ghost use Rattle.byteorder.specs.Endian.{big_bytes};
-ghost use Rattle.journal_areas.specs.Format.{open_gate, record_of, records, AreGiven};
-ghost use Rattle.journal_areas.specs.Sites.{area_size};
 ghost use Rattle.journal_areas.specs.Superblocks.{number_bytes};
+ghost use Rattle.journal_moves.specs.Gathering.{chunk, longest, size_of_area};
 
+use crate::gathered::Gathered;
+use crate::writing::CHUNK;
 use byteorder::{BigEndian, ByteOrder};
-use disk_model::OPEN_GATE;
 use journal_areas::Slot;
 use std::alloc::Global;
-use xt_base::{Octets, OutOfMemory};
+use xt_base::OutOfMemory;
 
 /// How long an area of these payloads is; none where 64 bits don't say it.
-pub fn size_of(payloads: &[Octets]) -> Option<u64>
-    requires { AreGiven payloads.now }
-    ensures { MatchOption result (2 ^ 64 ≤ area_size payloads.now) (λ n. n ≡ area_size payloads.now) }
+pub fn size_of(payloads: &[Gathered]) -> Option<u64>
+    requires { longest payloads.now < 2 ^ 32 }
+    ensures { MatchOption result (2 ^ 64 ≤ size_of_area payloads.now) (λ n. n ≡ size_of_area payloads.now) }
 {
     let mut size: u64 = 1;
     for payload in payloads {
-        match size.checked_add(5 + payload.as_slice().len() as u64) {
+        match size.checked_add(5 + payload.len() as u64) {
             Some(more) => size = more,
             None => return None,
         }
@@ -25,30 +26,17 @@ pub fn size_of(payloads: &[Octets]) -> Option<u64>
     Some(size)
 }
 
-/// The bytes of an area of these payloads, which are as many as `size`: each after an open gate and its length, and a closed gate.
-pub fn area_of(alloc: Global, payloads: &[Octets], size: u64) -> Result<Vec<u8>, OutOfMemory>
-    requires { AreGiven payloads.now }
-    ensures { IfOk result (λ area. area.items ≡ records payloads.now ++ 0 ∷ []) }
+/// An empty buffer through which an area of these payloads can be written with no more memory.
+pub fn buffer_for(alloc: Global, payloads: &[Gathered]) -> Result<Vec<u8>, OutOfMemory>
+    requires { longest payloads.now < 2 ^ 32 }
+    ensures empty { IfOk result (λ buffer. buffer.items ≡ []) }
+    ensures room { IfOk result (λ buffer. chunk + 6 + longest payloads.now ≤ vec_capacity buffer) }
 {
-    let mut area = Vec::with_capacity(alloc, size as usize)?;
+    let mut longest = 0;
     for payload in payloads {
-        put_record(&mut area, payload.as_slice())?;
+        longest = payload.len().max(longest);
     }
-    area.extend_from_slice(&[0])?;
-    Ok(area)
-}
-
-/// One record after an open gate.
-fn put_record(area: &mut Vec<u8>, payload: &[u8]) -> Result<(), OutOfMemory>
-    requires { length payload.now < 2 ^ 32 }
-    ensures { OnOk result (area.new.items ≡ area.old.items ++ open_gate ∷ record_of payload.now) }
-{
-    let mut len = [0; 4];
-    BigEndian::write_u32(&mut len, payload.len() as u32);
-    area.extend_from_slice(&[OPEN_GATE])?;
-    area.extend_from_slice(&len)?;
-    area.extend_from_slice(payload)?;
-    Ok(())
+    Ok(Vec::with_capacity(alloc, CHUNK + 6 + longest)?)
 }
 
 /// The bytes of a slot after its gate.

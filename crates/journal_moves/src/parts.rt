@@ -1,4 +1,6 @@
-ghost use Rattle.std.specs.Prelude.{◌≡◌, ◌≢◌, ◌≤◌, ◌<◌, ◌+◌, ◌^◌, ◌++◌, ◌∷◌, [], ℕ, List, Some, None, IsTrue, IfOk, OnOk, OnErr, is_err, length};
+ghost use Rattle.std.specs.Prelude.{◌≡◌, ◌≢◌, ◌≤◌, ◌<◌, ◌+◌, ◌*◌, ◌^◌, ◌++◌, ◌∷◌, [], ℕ, List, Some, None, IsTrue, IfOk, OnOk, OnErr, is_err, length};
+ghost use Rattle.std.specs.List.{All};
+ghost use Rattle.std.specs.Vec.{vec_capacity};
 ghost use Rattle.disk_model.specs.Disk.{LeavesOnly};
 ghost use Rattle.xt_base.specs.Faults.{fault_count_after};
 ghost use Rattle.journal_areas.specs.Format.{open_gate};
@@ -7,9 +9,13 @@ ghost use Rattle.journal_areas.specs.Kept.{KeepsIn};
 ghost use Rattle.journal_areas.specs.Superblocks.{base_of, number_bytes};
 ghost use Rattle.journal_areas.specs.Sites.{is_second, put, slot_at, superblock_at, with_slot};
 ghost use Rattle.journal_moves.specs.Answers.{IsPlaced};
+ghost use Rattle.journal_moves.specs.Gathering.{area_calls, chunk, longest, size_of_area, sizes_of};
+ghost use Rattle.journal_moves.specs.Writing.{IsIn, StaysOutside};
 ghost use Rattle.journal_moves.specs.Moves.{MakesCalls, FailsWithin, ready_calls, shut_calls, IsAt, IsNewArea, Stages, IsNextSlot, Fits, IsMove, IsEither, IsMoveStopped, end_ready, shut_gate, with_shut, numbered};
 
+use crate::gathered::Gathered;
 use crate::moving::Located;
+use crate::writing::{finish, write_records};
 use disk_model::{Disk, OPEN_GATE};
 use journal_areas::{Slot, Superblock};
 use journal_records::write_synced;
@@ -25,6 +31,10 @@ fn add_superblock<D: Disk>(disk: &mut D, end: u64) -> Result<(), Failed>
         OnOk result (IsAt (Some (superblock_at None end)) (D.kept disk.new) (end + 56) old) }
     ensures any_moment { IsTrue D.is_told → (old : List (List ℕ)) → IsAt None (D.kept disk.old) end old →
         LeavesOnly D.moment D.left_since disk.old disk.new (λ image. StandsFor image old) }
+    ensures stays { IsTrue D.is_told → (old : List (List ℕ)) → IsAt None (D.kept disk.old) end old →
+        OnOk result (StaysOutside (D.kept disk.old).read (D.kept disk.new).read end (end + 57)) }
+    ensures longer { IsTrue D.is_told →
+        OnOk result (length (D.kept disk.old).read ≤ length (D.kept disk.new).read) }
     ensures made { IsTrue D.is_told →
         OnOk result (MakesCalls (4) (D.fails disk.old) (D.fails disk.new)) }
     ensures failed { IsTrue D.is_told → OnErr result (FailsWithin (4) (D.fails disk.old)) }
@@ -57,6 +67,11 @@ pub fn ready<D: Disk>(disk: &mut D, at: &Located) -> Result<Superblock, Failed>
     ensures any_moment { IsTrue D.is_told → (old : List (List ℕ)) →
         IsAt at.now.superblock (D.kept disk.old) at.now.end old →
         LeavesOnly D.moment D.left_since disk.old disk.new (λ image. StandsFor image old) }
+    ensures stays { IsTrue D.is_told → (old : List (List ℕ)) →
+        IsAt at.now.superblock (D.kept disk.old) at.now.end old →
+        OnOk result (StaysOutside (D.kept disk.old).read (D.kept disk.new).read at.now.end (at.now.end + 57)) }
+    ensures longer { IsTrue D.is_told →
+        OnOk result (length (D.kept disk.old).read ≤ length (D.kept disk.new).read) }
     ensures made { IsTrue D.is_told →
         OnOk result (MakesCalls (ready_calls at.now.superblock) (D.fails disk.old) (D.fails disk.new)) }
     ensures failed { IsTrue D.is_told → OnErr result (FailsWithin (ready_calls at.now.superblock) (D.fails disk.old)) }
@@ -86,30 +101,38 @@ const SHUT: Slot = Slot {
     first: 0,
 };
 
-/// Writes an area where nothing counts, and syncs it.
+/// Writes an area of these payloads where nothing counts, and syncs it. It begins with an empty buffer.
 pub fn write_area<D: Disk>(
     disk: &mut D,
     superblock: &Superblock,
     place: u64,
-    area: &[u8],
+    payloads: &[Gathered],
+    buffer: &mut Vec<u8>,
 ) -> Result<(), Failed>
-    requires inside { place + length area.now ≤ D.reserved disk.old }
-    requires noted { length area.now + 128 ≤ D.room disk.old }
-    ensures done { IsTrue D.is_told → (old payloads : List (List ℕ)) →
-        IsNewArea superblock.now (D.kept disk.old) old place area.now payloads →
-        OnOk result (Stages superblock.now (D.kept disk.new) old place payloads) }
-    ensures any_moment { IsTrue D.is_told → (old payloads : List (List ℕ)) →
-        IsNewArea superblock.now (D.kept disk.old) old place area.now payloads →
+    requires there { IsTrue D.is_told → All (λ p. IsIn (D.kept disk.old).read p.rest) payloads.now }
+    requires fit { longest payloads.now < 2 ^ 32 }
+    requires empty { buffer.old.items ≡ [] }
+    requires buffer { chunk + 6 + longest payloads.now ≤ vec_capacity buffer.old }
+    requires inside { place + size_of_area payloads.now ≤ D.reserved disk.old }
+    requires small { place + size_of_area payloads.now < 2 ^ 64 }
+    requires noted { 2 * size_of_area payloads.now + 128 ≤ D.room disk.old }
+    ensures done { IsTrue D.is_told → (old lists : List (List ℕ)) →
+        IsNewArea superblock.now (D.kept disk.old) old place payloads.now lists →
+        OnOk result (Stages superblock.now (D.kept disk.new) old place lists) }
+    ensures any_moment { IsTrue D.is_told → (old lists : List (List ℕ)) →
+        IsNewArea superblock.now (D.kept disk.old) old place payloads.now lists →
         LeavesOnly D.moment D.left_since disk.old disk.new (λ image. StandsFor image old) }
-    ensures made { IsTrue D.is_told →
-        OnOk result (MakesCalls (2) (D.fails disk.old) (D.fails disk.new)) }
-    ensures failed { IsTrue D.is_told → OnErr result (FailsWithin (2) (D.fails disk.old)) }
+    ensures made { IsTrue D.is_told → OnOk result
+        (MakesCalls (area_calls (sizes_of payloads.now)) (D.fails disk.old) (D.fails disk.new)) }
+    ensures failed { IsTrue D.is_told → OnErr result
+        (FailsWithin (area_calls (sizes_of payloads.now)) (D.fails disk.old)) }
     ensures reserved { D.reserved disk.new ≡ D.reserved disk.old }
-    ensures room { D.room disk.old ≤ D.room disk.new + (length area.now + 128) }
+    ensures room { OnOk result (D.room disk.old ≤ D.room disk.new + (2 * size_of_area payloads.now + 128)) }
     ensures count { D.fault_count disk.new ≡
         fault_count_after (is_err result) (D.fault_count disk.old) }
 {
-    write_synced(disk, place, area)
+    let at = write_records(disk, place, payloads, buffer)?;
+    finish(disk, at, buffer)
 }
 
 /// Shuts the slot that doesn't count where it is open, since a write after an open gate could make it count in a crash.

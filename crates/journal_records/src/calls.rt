@@ -13,6 +13,8 @@ pub fn write_synced<D: Disk>(disk: &mut D, at: u64, piece: &[u8]) -> Result<(), 
     requires noted { length piece.now + 128 ≤ D.room disk.old }
     ensures done { IsTrue D.is_told → D.kept disk.old ≡ at_rest (D.kept disk.old).read →
         OnOk result (D.kept disk.new ≡ at_rest (overlay (D.kept disk.old).read at piece.now)) }
+    ensures longer { IsTrue D.is_told →
+        OnOk result (length (D.kept disk.old).read ≤ length (D.kept disk.new).read) }
     ensures torn { IsTrue D.is_told → D.kept disk.old ≡ at_rest (D.kept disk.old).read →
         OnErr result (IsTornAt at piece.now (D.kept disk.old).read (D.kept disk.new)) }
     ensures any_moment { IsTrue D.is_told → D.kept disk.old ≡ at_rest (D.kept disk.old).read →

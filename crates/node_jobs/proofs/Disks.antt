@@ -1,10 +1,11 @@
 -- what a node does to its disk, one thing after the other
-use Rattle.std.proofs.Common.{ℕ, ◌≡◌, ◌≤◌, ◌<◌, sym, ◌∙◌, ap, subst, inl, inr, ⊎_elim, Option, Some, None, List, [], ◌∷◌, length, Ok}
+use Rattle.std.proofs.Common.{ℕ, ◌≡◌, ◌≤◌, ◌<◌, ◌-◌, ◌^◌, true, arith, sym, ◌∙◌, ap, subst, inl, inr, ⊎_elim, Option, Some, None, List, [], ◌∷◌, length, Ok}
 use Rattle.std.specs.Prelude.{Bool, IsTrue}
 use Rattle.std.proofs.lemmas.Bool.{cases_lt}
 use Rattle.disk_model.specs.declared.disk.Disk.{Ghosts}
 use Rattle.disk_model.specs.Disk.{Kept, IsImage, Elapses, LeavesOnly, at_rest}
 use Rattle.disk_model.proofs.Moments.{joined, unchanged, weaker}
+use Rattle.xt_base.specs.Faults.{Rose, fault_count_after}
 use Rattle.xt_base.specs.declared.ids.Boot.{Boot}
 use Rattle.xt_messages.specs.declared.record.Record.{Record}
 use Rattle.xt_messages.specs.declared.status.Status.{Status}
@@ -13,7 +14,7 @@ use Rattle.journal_areas.specs.declared.superblock.Superblock.{Superblock}
 use Rattle.xt_journal.specs.Format.{StandsIn, StandsFor, KeepsJournal, end_in, journal_of}
 use Rattle.xt_journal.specs.Loaded.{LeavesAsBefore}
 use Rattle.xt_journal.specs.declared.journal.Journal.{Journal}
-use Rattle.xt_journal.specs.declared.placed.Placed.{Placed}
+use Rattle.xt_journal.specs.Placed.{Placed}
 use Rattle.xt_journal.specs.Access as journal
 use Rattle.xt_journal.specs.Access.{limit_of, place_of, superblock_of}
 use Rattle.xt_journal.specs.Reading.{IsTheReading, Stands, Foreign, Unknown, Damaged, payloads_of}
@@ -22,7 +23,9 @@ use Rattle.xt_journal.proofs.Unique.{reads_stand}
 use Rattle.object_store.specs.declared.store.Store.{Store}
 use Rattle.object_store.specs.Access.{disk_of, records_of, journal_of as journal_in}
 use Rattle.object_store.specs.Loading.{IsLoadOf}
-use Rattle.object_store.specs.Texts.{texts_of}
+use Rattle.object_store.specs.Texts.{texts_of, AreRecords}
+use Rattle.object_store.proofs.Stored.{known_there}
+use Rattle.object_store.proofs.Stores.{known_are}
 use Rattle.world_spec.specs.World.{Deed}
 use Rattle.node_runs.specs.Keeping.{KeepsWith, KeptInTurn, from_start, then_next}
 use Rattle.node_runs.specs.Runs.{JournalAt, grown}
@@ -47,6 +50,11 @@ reread is_told bytes same is (status.Damaged place) why = λ told.
     (λ bad. inr (subst (λ (b : List ℕ). HasBadRecord b place) (is told) bad))
     (why told)
 reread is_told bytes same is _ why = why
+
+-- a count that goes up by one, or stays at the greatest
+pub rose_by_one : (old new : ℕ) → new ≡ fault_count_after true old → Rose old new
+rose_by_one old new is =
+    ⊎_elim (λ low. inl (omega (arith, is, low))) (λ high. inr (omega (arith, is, high))) (cases_lt old (2 ^ 64 - 1))
 
 -- a load that gave a journal, and no store
 pub left_unloaded : (old new : Kept) (payloads : List (List ℕ)) → KeepsJournal new payloads → (13 < length old.read → new.read ≡ old.read)
@@ -159,24 +167,27 @@ module _ {D : Type 0} {g : Ghosts D}
 
   -- a store that was loaded from a disk
   pub loaded_is : (before : D) (limit : ℕ) (from : Journal D g) (placed : List Placed) (payloads : List (List ℕ)) (store : Store D g)
-      → (IsTrue g.is_told → IsTheReading (g.kept before).read (Stands placed)) → payloads ≡ payloads_of placed → limit_of from ≡ limit
+      → (IsTrue g.is_told → IsTheReading (g.kept before).read (Stands placed)) → (IsTrue g.is_told → payloads ≡ payloads_of placed) → limit_of from ≡ limit
       → (IsTrue g.is_told → StandsIn (superblock_of from) (g.kept before).read (payloads_of placed))
       → (IsTrue g.is_told → LeavesOnly g.moment g.left_since before (journal.disk_of from) (LeavesAsBefore (g.kept before)))
       → g.fault_count (journal.disk_of from) ≡ g.fault_count before → IsLoadOf from payloads (Ok store) → IsLoaded (medium_of g) before limit store
-  loaded_is before limit from placed payloads store reads are room stood loads faults is = record {
-    are = is.2;
-    room = ap (λ (j : Journal D g). limit_of j) is.0 ∙ room;
-    stood = λ told.
-        subst (λ (super : Option Superblock). StandsIn super (g.kept before).read (texts_of (records_of store))) (sym (ap (λ (j : Journal D g). superblock_of j) is.0))
-        (subst (λ (ps : List (List ℕ)). StandsIn (superblock_of from) (g.kept before).read ps) (sym (is.1 ∙ are)) (stood told));
-    comes = record {
-      stood = λ told. subst (λ (ps : List (List ℕ)). StandsFor (g.kept before).read ps) (sym (is.1 ∙ are)) (reads_stand (g.kept before).read placed (reads told).reads);
-      loads = λ told.
-          subst (λ (j : Journal D g). LeavesOnly g.moment g.left_since before (journal.disk_of j) (LeavesAsBefore (g.kept before))) (sym is.0) (loads told);
-      kept = keeps_now g.is_told g.kept g.moment g.left_since (disk_of store) (records_of store) store.keeps (λ image told left. only_now (disk_of store) image told left);
-      faults = ap (λ (j : Journal D g). g.fault_count (journal.disk_of j)) is.0 ∙ faults;
-    };
-  }
+  loaded_is before limit from placed payloads store reads are room stood loads faults is =
+      let there : IsTrue g.is_told → texts_of (records_of store) ≡ payloads_of placed =
+      λ told. ap texts_of (is.known ∙ known_there g.is_told is.records told) ∙ is.texts ∙ are told in
+      record {
+        are = subst AreRecords (sym is.known) (known_are g.is_told is.records is.are);
+        room = ap (λ (j : Journal D g). limit_of j) is.journal_is ∙ room;
+        stood = λ told.
+            subst (λ (super : Option Superblock). StandsIn super (g.kept before).read (texts_of (records_of store))) (sym (ap (λ (j : Journal D g). superblock_of j) is.journal_is))
+            (subst (λ (ps : List (List ℕ)). StandsIn (superblock_of from) (g.kept before).read ps) (sym (there told)) (stood told));
+        comes = record {
+          stood = λ told. subst (λ (ps : List (List ℕ)). StandsFor (g.kept before).read ps) (sym (there told)) (reads_stand (g.kept before).read placed (reads told).reads);
+          loads = λ told.
+              subst (λ (j : Journal D g). LeavesOnly g.moment g.left_since before (journal.disk_of j) (LeavesAsBefore (g.kept before))) (sym is.journal_is) (loads told);
+          kept = keeps_now g.is_told g.kept g.moment g.left_since (disk_of store) (records_of store) store.keeps (λ image told left. only_now (disk_of store) image told left);
+          faults = ap (λ (j : Journal D g). g.fault_count (journal.disk_of j)) is.journal_is ∙ faults;
+        };
+      }
 
 -- where the records of a loaded store are on the disk, once that of its boot was put
 module _ {D : Type 0} {g : Ghosts D} where

@@ -1,5 +1,5 @@
 -- how the job of a node ends
-use Rattle.std.proofs.Common.{length, ℕ, Option, ◌≡◌, refl, sym, subst, List, [], ◌∷◌}
+use Rattle.std.proofs.Common.{length, ℕ, Bool, Option, ◌≡◌, refl, sym, subst, List, [], ◌∷◌}
 use Rattle.std.specs.List.{All, AllByRecursion}
 use Rattle.std.proofs.lemmas.List.Elements.{All-append, All-from_recursion, recursion_from_All}
 use Rattle.xt_base.specs.declared.ids.Boot.{Boot}
@@ -32,15 +32,15 @@ dir_ready records after state are boot is told =
     subst (DirRunsOn after) (sym told) (subst (λ rs. DirRunsOn rs (dir_of rs)) (sym is) (dir_starts (booted records) (boot_fits records are.fit boot)))
 
 -- serving never ends by a fault of the sink
-module _ {S : Type 0} (role : Role S) (boot : Boot) (period limit : ℕ) where
+module _ {S : Type 0} (told : Bool) (role : Role S) (boot : Boot) (period limit : ℕ) where
   ends_no_sink : (sink spent : ℕ) (to_come : Option (List Datagram)) (s : Served S) (undone : Undone) (said : Status)
-      → EndsServing role boot period limit spent to_come s undone said → HasSinkCause sink sink said
+      → EndsServing told role boot period limit spent to_come s undone said → HasSinkCause sink sink said
   ends_no_sink sink spent to_come s undone (status.SinkFault count) ending = absurd ending
   ends_no_sink sink spent to_come s undone _ ending = refl
 
   pub served_sink : (start : Served S) (given_before given_after sent_before sent_after : Option (List Datagram)) (losses_before losses_after : ℕ)
       (unread read : Option (List ℕ)) (sink : ℕ) (said : Status)
-      → IsServed role boot period start limit given_before given_after sent_before sent_after losses_before losses_after unread read said
+      → IsServed told role boot period start limit given_before given_after sent_before sent_after losses_before losses_after unread read said
       → HasSinkCause sink sink said
   served_sink start given_before given_after sent_before sent_after losses_before losses_after unread read sink said is =
       ends_no_sink sink (length is.turns) is.to_come is.end is.undone said is.ending

@@ -4,3 +4,4 @@ pub mod Places
 pub mod Jobs
 pub mod Serving
 pub mod Osds
+pub mod Bare

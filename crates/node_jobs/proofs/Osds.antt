@@ -26,8 +26,9 @@ abbrev pub view_at : NodeId → TimeSettings → List ℕ → List Record → �
 view_at id times key records reading = record { key = Some key; state = osd_at id times records reading }
 
 pub osd_told : (id : NodeId) (times : TimeSettings) (key : List ℕ) (records records' : List Record) (reading : ℕ) (osd : OsdView)
-    → osd ≡ view_at id times key records' reading → records' ≡ records → osd ≡ view_at id times key records reading
-osd_told id times key records records' reading osd is same = is ∙ ap (λ (rs : List Record). view_at id times key rs reading) same
+    → osd ≡ view_at id times key records' reading → fold_of records' ≡ fold_of records → osd ≡ view_at id times key records reading
+osd_told id times key records records' reading osd is says =
+    is ∙ ap (λ (f : Folded). record { key = Some key; state = osd_from (record { node = id; boot = f.boot; times = times; start = reading }) f.files }) says
 
 -- what the records with the next boot say
 boot_told : (records : List Record) → fold_of (booted records) ≡ record { boot = next_boot records; files = (fold_of records).files }

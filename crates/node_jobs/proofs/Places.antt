@@ -1,29 +1,30 @@
 -- the place of a payload that is no record
-use Rattle.std.proofs.Common.{ℕ, ◌≡◌, ◌<◌, ◌+◌, ◌∙◌, ap, refl, List, ◌∷◌, length, get_or, length-append, arith}
+use Rattle.std.proofs.Common.{ℕ, ◌≡◌, ◌<◌, ◌+◌, ◌-◌, ◌∙◌, true, ap, refl, sym, List, ◌∷◌, length, get_or, length-append, arith}
+use Rattle.std.proofs.Math.ListN.{get_or-map}
 use Rattle.std.proofs.lemmas.List.{length-map}
-use Rattle.xt_journal.specs.declared.placed.Placed.{Placed}
-use Rattle.xt_journal.specs.Reading.{IsTheReading, Stands, payloads_of}
+use Rattle.journal_moves.specs.declared.extent.Extent.{Extent}
+use Rattle.xt_journal.specs.Placed.{placed_at, placed_on}
+use Rattle.xt_journal.specs.Reading.{IsTheReading, Stands, payloads_on}
 use Rattle.object_store.specs.Texts.{texts_of, IsFirstBad}
 use Rattle.replica_records.specs.RecordText.{record_text}
 use Rattle.node_jobs.specs.Disks.{HasBadRecord}
 
-pub bad_inside : (placed : List Placed) (index : ℕ) → IsFirstBad (payloads_of placed) index → index < length placed
-bad_inside placed index bad =
-    let all : length (payloads_of placed) ≡ length placed = length-map placed _ in
-    let parts : length (payloads_of placed) ≡ length (texts_of bad.before) + length (bad.payload ∷ bad.rest) =
+pub bad_inside : (payloads : List (List ℕ)) (count index : ℕ) → length payloads ≡ count → IsFirstBad payloads index → index < count
+bad_inside payloads count index all bad =
+    let parts : length payloads ≡ length (texts_of bad.before) + length (bad.payload ∷ bad.rest) =
     ap length bad.split ∙ length-append (texts_of bad.before) (bad.payload ∷ bad.rest) in
     let before : length (texts_of bad.before) ≡ length bad.before = length-map bad.before record_text in
     let place : index ≡ length bad.before = bad.place in
     omega arith
 
-pub bad_record : (bytes : List ℕ) (placed : List Placed) (index : ℕ) (x : Placed) → IsTheReading bytes (Stands placed) → IsFirstBad (payloads_of placed) index
-    → x ≡ get_or placed index x → HasBadRecord bytes x.gate
-bad_record bytes placed index x reading bad is = record {
-  placed = placed;
+pub bad_record : (bytes : List ℕ) (extents : List Extent) (index : ℕ) (e : Extent) → IsTheReading bytes (Stands (placed_on true bytes extents))
+    → IsFirstBad (payloads_on bytes extents) index → e ≡ get_or extents index e → HasBadRecord bytes (e.at - 5)
+bad_record bytes extents index e reading bad is = record {
+  placed = placed_on true bytes extents;
   stand = reading.reads;
   index = index;
   first = bad;
-  bad = x;
-  is_there = is;
+  bad = placed_at true bytes e;
+  is_there = ap (placed_at true bytes) is ∙ sym (get_or-map (placed_at true bytes) extents index e);
   is_place = refl;
 }

@@ -21,11 +21,11 @@ use Rattle.node_runs.specs.Keeping.{KeepsServed}
 use Rattle.node_runs.specs.Runs.{Role, Served, JournalAt, kept_through}
 use Rattle.node_runs.specs.Serving.{IsServed}
 use Rattle.node_runs.proofs.Keeping.{from_before}
-use Rattle.node_loop.specs.Events.{TellsDiskCount}
+use Rattle.node_loop.specs.Events.{HasDiskCause}
 use Rattle.node_loop.specs.Turns.{standing}
 use Rattle.node_loop.proofs.Counting.{cause_since}
 use Rattle.server_rows.specs.Directory.{DirNode, dir_of}
-use Rattle.server_rows.specs.Metadata.{MrcNode, mrc_of}
+use Rattle.server_rows.specs.Metadata.{Catalogue, MrcNode, catalogue_of, mrc_of}
 use Rattle.server_limits.specs.Keeping.{MrcRunsOn}
 use Rattle.server_limits.proofs.Keeping.{mrc_starts}
 use Rattle.mrc_core.specs.Picking.{CanTake}
@@ -40,14 +40,14 @@ module _ {D S : Type 0} (m : Medium D) (before after : Outside D) (turns : ℕ) 
   -- what serving says of a node that was ready in this state, and of its disk
   abbrev Serves : Role S → Boot → ℕ → Served S → Outside D → Type 0
   Serves role boot period start ready =
-      (s : IsServed role boot period start turns ready.given after.given ready.sent after.sent ready.losses after.losses ready.readings after.readings said)
+      (s : IsServed m.is_told role boot period start turns ready.given after.given ready.sent after.sent ready.losses after.losses ready.readings after.readings said)
       × KeepsServed m.is_told m.kept m.moment m.left_since ready.disk after.disk start
-      (kept_through role boot period ready.given start s.to_come s.turns s.posts s.end s.comes) s.end s.undone
+      (kept_through m.is_told role boot period ready.given start s.to_come s.turns s.posts s.end s.comes) s.end s.undone
 
   module _ (role : Role S) (boot : Boot) (period : ℕ) (start : Served S) (ready : Outside D) (records : List Record) (loaded : D)
       (comes : ComesFrom m before.disk loaded records) (to : ComesTo m loaded ready.disk records start.kept) (serves : Serves role boot period start ready) where
     abbrev through : List (List Record)
-    through = kept_through role boot period ready.given start serves.0.to_come serves.0.turns serves.0.posts serves.0.end serves.0.comes
+    through = kept_through m.is_told role boot period ready.given start serves.0.to_come serves.0.turns serves.0.posts serves.0.end serves.0.comes
 
     kept_on : KeepsFrom m before.disk after.disk records (records ∷ through) serves.0.end.kept serves.0.undone.met
     kept_on = keeps_from m before.disk loaded serves.1.until after.disk records (records ∷ through) serves.0.end.kept serves.0.undone.met comes
@@ -79,7 +79,7 @@ module _ {D S : Type 0} (m : Medium D) (job : NodeJob S) (before ready after : O
   pub has_done : (role : Role S) (ears : Ears) (period due : ℕ) (state : S) (own : List Msg)
       → role ≡ job.role → state ≡ job.state_of kept reading → own ≡ [] → ears ≡ job.ears → period ≡ job.period → due ≡ reading + period
       → after.held ≡ ready.held → Serves m before after job.turns said role boot period (standing state kept journal own ears reading due 0 false) ready
-      → TellsDiskCount (m.fault_count ready.disk) (m.fault_count after.disk) said → IsNodeJob m job before after said
+      → HasDiskCause (m.fault_count ready.disk) (m.fault_count after.disk) said → IsNodeJob m job before after said
   has_done role ears period due state own same told none heard every when held serves count =
       let started = starting (job.state_of (booted is.records) reading) (booted is.records) journal job.ears reading job.period in
       let starts : standing state kept journal own ears reading due 0 false ≡ started =
@@ -135,8 +135,8 @@ module _ {D : Type 0} (m : Medium D) (before after : Outside D) (said ready : Li
 -- ---- the directory service
 
 pub dir_told : (key key' : List ℕ) (records records' : List Record) (dir : DirNode) → dir ≡ record { secret = key'; state = dir_of records' } → key' ≡ key
-    → records' ≡ records → dir ≡ record { secret = key; state = dir_of records }
-dir_told key key' records records' dir is same kept = is ∙ (λ i. record { secret = same i; state = dir_of (kept i) })
+    → dir_of records' ≡ dir_of records → dir ≡ record { secret = key; state = dir_of records }
+dir_told key key' records records' dir is same says = is ∙ (λ i. record { secret = same i; state = says i })
 
 -- ---- the metadata server
 
@@ -144,9 +144,10 @@ abbrev pub mrc_at : List ℕ → List Record → ℕ → MrcNode
 mrc_at key records reading = record { secret = key; state = mrc_of key records reading }
 
 pub mrc_told : (key key' : List ℕ) (records records' : List Record) (reading : ℕ) (mrc : MrcNode) → mrc ≡ mrc_at key' records' reading
-    → key' ≡ key → records' ≡ records → mrc ≡ mrc_at key records reading
-mrc_told key key' records records' reading mrc is same kept =
-    is ∙ ap (λ (k : List ℕ). mrc_at k records' reading) same ∙ ap (λ (rs : List Record). mrc_at key rs reading) kept
+    → key' ≡ key → catalogue_of key records' ≡ catalogue_of key records → mrc ≡ mrc_at key records reading
+mrc_told key key' records records' reading mrc is same says =
+    is ∙ ap (λ (k : List ℕ). mrc_at k records' reading) same
+    ∙ ap (λ (c : Catalogue). record { secret = key; state = record (mrc_of key records reading) { catalogue = c } }) says
 
 module _ (records after : List Record) (are : AreRecords records) (boot : FitsBoot (next_boot records)) (is : after ≡ booted records) where
   pub mrc_ready : (key : List ℕ) (reading : ℕ) (mrc : MrcNode) → reading < 2 ^ 62 → mrc ≡ mrc_at key after reading

@@ -9,7 +9,7 @@ use Rattle.xt_messages.specs.declared.status.Limited.TheVariants as limited
 use Rattle.xt_messages.specs.declared.status.Status.{Status}
 use Rattle.xt_messages.specs.declared.status.Status.TheVariants as status
 use Rattle.journal_areas.specs.declared.superblock.Superblock.{Superblock}
-use Rattle.xt_journal.specs.declared.placed.Placed.{Placed}
+use Rattle.xt_journal.specs.Placed.{Placed}
 use Rattle.xt_journal.specs.Access.{limit_of, superblock_of}
 use Rattle.xt_journal.specs.Format.{StandsIn, StandsFor, end_in, journal_of}
 use Rattle.xt_journal.specs.Loaded.{LeavesAsBefore, LeavesDisk}

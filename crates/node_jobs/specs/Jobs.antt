@@ -19,7 +19,7 @@ use Rattle.node_runs.specs.Hearing.{Ears, with_address}
 use Rattle.node_runs.specs.Links.{Reads}
 use Rattle.node_runs.specs.Runs.{Role, Served, JournalAt, kept_through}
 use Rattle.node_runs.specs.Serving.{IsServed}
-use Rattle.node_loop.specs.Events.{TellsDiskCount}
+use Rattle.node_loop.specs.Events.{HasDiskCause}
 use Rattle.node_jobs.specs.Boots.{next_boot, boot_record, booted}
 use Rattle.node_jobs.specs.Disks.{Medium, EndsUnopened, IsUnloaded, IsUnbooted, KeepsFrom, ComesFrom, ComesTo, StandAt}
 
@@ -156,15 +156,15 @@ module _ {D : Type 0} (m : Medium D) where
     pub between : Option (List ℕ)
     pub read : Reads before.readings between (reading ∷ [])
     pub told : Puts before.held after.held job.ready
-    pub serves : IsServed job.role (next_boot records) job.period
+    pub serves : IsServed m.is_told job.role (next_boot records) job.period
         (starting (job.state_of (booted records) reading) (booted records) journal job.ears reading job.period) job.turns
         before.given after.given before.sent after.sent before.losses after.losses between after.readings said
     -- Its disk kept its records, and then in turn those of the serving, from its boot on: a crash leaves none that are older than what it
     -- kept by then. In the end it has those after all that it did, or those that it was about to keep as it ended.
-    pub keeps : KeepsFrom m before.disk after.disk records (records ∷ kept_through job.role (next_boot records) job.period before.given
+    pub keeps : KeepsFrom m before.disk after.disk records (records ∷ kept_through m.is_told job.role (next_boot records) job.period before.given
         (starting (job.state_of (booted records) reading) (booted records) journal job.ears reading job.period)
         serves.to_come serves.turns serves.posts serves.end serves.comes) serves.end.kept serves.undone.met
-    pub disk_count : TellsDiskCount (m.fault_count before.disk) (m.fault_count after.disk) said
+    pub disk_count : HasDiskCause (m.fault_count before.disk) (m.fault_count after.disk) said
 
   -- The job of a node: it ended before it served, or it served.
   pub data IsNodeJob {S : Type 0} (job : NodeJob S) (before after : Outside D) (said : Status) : Type 0 where

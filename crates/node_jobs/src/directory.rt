@@ -17,6 +17,7 @@ use own_messages::OwnMessages;
 use std::alloc::Global;
 use xt_base::DIR_NODE;
 use xt_messages::Status;
+use xt_parts::PartBuffer;
 
 /// The longest datagram that a link gives, in bytes.
 const DATAGRAM: usize = 65_536;
@@ -58,6 +59,9 @@ pub fn serve_directory<K: Sink, L: Link, D: Disk, C: Clock>(
     let Ok(mut buf) = Vec::from_elem(alloc, 0, DATAGRAM) else {
         return (Status::OutOfMemory, disk);
     };
+    let Ok(part) = PartBuffer::new(alloc) else {
+        return (Status::OutOfMemory, disk);
+    };
     let Ready {
         store,
         boot,
@@ -77,6 +81,7 @@ pub fn serve_directory<K: Sink, L: Link, D: Disk, C: Clock>(
             boot,
             count: 0,
         },
+        part,
         ears: Ears::new(alloc),
         own: OwnMessages::new(alloc),
         clock: reading,

@@ -14,17 +14,19 @@ use xt_messages::{Limited, Record, Status};
 /// The greatest number of a boot.
 const LAST_BOOT: u64 = (1 << 62) - 1;
 
+/// The bytes of a record that come before its payload: its gate (1), and the payload's length (4).
+const BEFORE_PAYLOAD: u64 = 1 + 4;
+
 /// Loads the records on a disk into a store, whose journal has this limit in bytes. An empty disk is made a journal first.
 ///
 /// `Damaged` gives the place of the gate after which the journal goes wrong, or of the first payload that isn't a record in its place.
-#[tactic(auto, using(crate::proofs::Places::bad_inside))]
 pub fn loaded<D: Disk>(alloc: Global, disk: D, limit: u64) -> Result<Store<D>, Ended<D>>
     ensures loads { IfOk result (λ store. IsLoaded
         (medium D.is_told D.kept D.moment D.left_since D.fault_count) disk limit store) }
     ensures ends { IfErr result (λ ended. IsUnloaded
         (medium D.is_told D.kept D.moment D.left_since D.fault_count) disk ended.disk ended.status) }
 {
-    let (journal, placed) = match Journal::load(alloc, disk, limit) {
+    let (journal, extents) = match Journal::load(alloc, disk, limit) {
         Ok(loaded) => loaded,
         Err(LoadErr::DiskFault { count, disk }) => {
             let status = Status::DiskFault { count };
@@ -47,13 +49,17 @@ pub fn loaded<D: Disk>(alloc: Global, disk: D, limit: u64) -> Result<Store<D>, E
             return Err(Ended { status, disk });
         }
     };
-    match Store::load(alloc, journal, placed.as_slice()) {
+    match Store::load(alloc, journal, extents.as_slice()) {
         Ok(store) => Ok(store),
         Err(StoreErr::BadRecord { index, journal }) => Err(Ended {
             status: Status::Damaged {
-                place: placed[index].gate,
+                place: extents[index].at - BEFORE_PAYLOAD,
             },
             disk: journal.close(),
+        }),
+        Err(StoreErr::Broken { count, disk }) => Err(Ended {
+            status: Status::DiskFault { count },
+            disk,
         }),
         Err(StoreErr::OutOfMemory { journal }) => Err(Ended {
             status: Status::OutOfMemory,

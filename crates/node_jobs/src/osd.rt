@@ -20,6 +20,7 @@ use replica_records::fold;
 use std::alloc::Global;
 use xt_base::{Address, NodeId, Octets, OutOfMemory};
 use xt_messages::{Record, Status};
+use xt_parts::PartBuffer;
 
 /// The longest datagram that a link gives, in bytes.
 const DATAGRAM: usize = 65_536;
@@ -104,6 +105,9 @@ pub fn serve_osd<K: Sink, L: Link, D: Disk, C: Clock>(
     let Ok(mut buf) = Vec::from_elem(alloc, 0, DATAGRAM) else {
         return (Status::OutOfMemory, disk);
     };
+    let Ok(part) = PartBuffer::new(alloc) else {
+        return (Status::OutOfMemory, disk);
+    };
     let Ok(ears) = ears_with(alloc, dir) else {
         return (Status::OutOfMemory, disk);
     };
@@ -129,6 +133,7 @@ pub fn serve_osd<K: Sink, L: Link, D: Disk, C: Clock>(
             boot,
             count: 0,
         },
+        part,
         ears,
         own: OwnMessages::new(alloc),
         clock: reading,

@@ -1,5 +1,5 @@
 -- what an event leaves
-use Rattle.std.proofs.Common.{ℕ, ◌≡◌, sym, subst, Option, Some, List, ◌++◌, length, take, inl, inr, ◌⊎◌}
+use Rattle.std.proofs.Common.{ℕ, ◌≡◌, sym, ◌∙◌, ap, subst, Bool, Option, Some, List, ◌++◌, length, take, inl, inr, ◌⊎◌}
 use Rattle.std.proofs.Math.Seq.{take-length}
 use Rattle.std.specs.List.{All}
 use Rattle.std.proofs.lemmas.List.Elements.{All-append, All-filter}
@@ -7,17 +7,20 @@ use Rattle.std.specs.Prelude.{◌==◌, []}
 use Rattle.xt_base.specs.declared.ids.NodeId.{NodeId}
 use Rattle.xt_base.specs.declared.ids.Boot.{Boot}
 use Rattle.xt_messages.specs.declared.message.Msg.{Msg}
+use Rattle.xt_messages.specs.declared.event.Event.{Event}
 use Rattle.xt_messages.specs.Limits.{FitsMessage}
 use Rattle.xt_messages.specs.declared.record.Record.{Record}
 use Rattle.xt_messages.specs.declared.status.Status.{Status}
 use Rattle.xt_messages.specs.declared.status.Status.TheVariants as status
+use Rattle.replica_records.specs.Known.{Sees}
 use Rattle.client_rows.specs.Steps.{Step}
 use Rattle.world_spec.specs.NodeSteps.{to_itself}
 use Rattle.node_links.specs.declared.link.Datagram.{Datagram}
 use Rattle.node_runs.specs.Hearing.{Book}
-use Rattle.node_runs.specs.Posting.{posted, none_posted, HasPosted, HasSentFront}
-use Rattle.node_runs.specs.Runs.{JournalAt, needed_in}
-use Rattle.node_loop.specs.Events.{EndsEvent, EndsPut, IsFullFor, LeavesPut}
+use Rattle.node_runs.specs.Posting.{Posted, posted, none_posted, HasPosted, HasSentFront}
+use Rattle.node_runs.specs.Runs.{JournalAt, Role, Served, needed_in}
+use Rattle.node_loop.specs.Events.{EndsEvent, EndsPut, HasStepped, IsFullFor, LeavesPut}
+use Rattle.node_loop.specs.Turns.{HasActed}
 
 pub own_fits : (node : NodeId) (old outs own : List Msg) → own ≡ old ++ to_itself node outs → All FitsMessage old → All FitsMessage outs → All FitsMessage own
 own_fits node old outs own e before new =
@@ -46,3 +49,24 @@ ends_put step node boot book before journal handed leaves rec (status.JournalFul
 ends_put step node boot book before journal handed leaves rec status.OutOfMemory is none ends full left =
     inr ((0, none), subst leaves (sym is) left)
 ends_put step node boot book before journal handed leaves rec _ is none ends full left = absurd ends
+
+-- the node after an event, whose messages to itself were queued
+pub has_acted : {S : Type 0} (told : Bool) (role : Role S) (boot : Boot) (old : Served S) (happens : Event) (seen : List Record) (node : NodeId) (book : Book)
+    (state : S) (kept : List Record) (journal : JournalAt) (own : List Msg) (count : ℕ) (outs : List Msg) (handed : List Datagram → Type 0)
+    → Sees told old.kept seen → node ≡ role.node → book ≡ old.ears.book
+    → HasStepped told (role.step seen old.state old.clock happens) node boot book old.count old.kept old.journal state kept journal outs count handed
+    → own ≡ old.own ++ to_itself node outs
+    → HasActed told role boot old happens (record old { state = state; kept = kept; own = own; count = count; journal = journal }) handed
+has_acted told role boot old happens seen node book state kept journal own count outs handed sees home same is queued =
+    let step = role.step seen old.state old.clock happens in
+    let posts : posted node boot book (none_posted old.count) step.turned.outs ≡ posted role.node boot old.ears.book (none_posted old.count) step.turned.outs =
+    λ i. posted (home i) boot (same i) (none_posted old.count) step.turned.outs in
+    let owns : own ≡ old.own ++ to_itself role.node step.turned.outs = queued ∙ (λ i. old.own ++ to_itself (home i) (is.outs_are i)) in
+    let counts : count ≡ (posted role.node boot old.ears.book (none_posted old.count) step.turned.outs).count =
+    is.sent.counted ∙ ap (λ (p : Posted). p.count) posts in
+    record {
+      seen = seen;
+      sees = sees;
+      is = λ i. record old { state = is.state_is i; kept = is.kept_is i; own = owns i; count = counts i; journal = is.journal_is i };
+      sends = subst handed (ap (λ (p : Posted). p.datagrams) posts) is.sent.went;
+    }

@@ -28,9 +28,9 @@ readings-join : (turns more : List Turn) → readings_in (turns ++ more) ≡ rea
 readings-join [] more = refl
 readings-join (turn ∷ turns) more = ap (λ xs. reading_in turn ∷ xs) (readings-join turns more)
 
-module _ {S : Type 0} (role : Role S) (boot : Boot) (period limit : ℕ) (start : Served S)
+module _ {S : Type 0} (is_told : Bool) (role : Role S) (boot : Boot) (period limit : ℕ) (start : Served S)
     (given_before sent_before : Option (List Datagram)) (losses_before : ℕ) (unread : Option (List ℕ)) where
-  pub has_begun_serving : HasCome role boot period start start 0 given_before given_before sent_before sent_before losses_before losses_before unread unread
+  pub has_begun_serving : HasCome is_told role boot period start start 0 given_before given_before sent_before sent_before losses_before losses_before unread unread
   has_begun_serving = record {
     turns = [];
     posts = [];
@@ -42,15 +42,15 @@ module _ {S : Type 0} (role : Role S) (boot : Boot) (period limit : ℕ) (start 
   }
 
   module _ (spent : ℕ) (given sent : Option (List Datagram)) (losses : ℕ) (read : Option (List ℕ)) (s : Served S)
-      (come : HasCome role boot period start s spent given_before given sent_before sent losses_before losses unread read)
+      (come : HasCome is_told role boot period start s spent given_before given sent_before sent losses_before losses unread read)
       (given_after sent_after : Option (List Datagram)) (losses_after : ℕ) (read_after : Option (List ℕ)) where
     pub comes_on : (role' : Role S) (boot' : Boot) → role' ≡ role → boot' ≡ boot → (next : Served S) (now_spent : ℕ)
-        → HasPassed role' boot' period s next spent now_spent given given_after sent sent_after losses losses_after read read_after
-        → HasCome role boot period start next now_spent given_before given_after sent_before sent_after losses_before losses_after unread read_after
+        → HasPassed is_told role' boot' period s next spent now_spent given given_after sent sent_after losses losses_after read read_after
+        → HasCome is_told role boot period start next now_spent given_before given_after sent_before sent_after losses_before losses_after unread read_after
     comes_on role' boot' r b next now_spent one' =
-        let one : HasPassed role boot period s next spent now_spent given given_after sent sent_after losses losses_after read read_after =
-        subst (λ x. HasPassed role x period s next spent now_spent given given_after sent sent_after losses losses_after read read_after) b
-        (subst (λ x. HasPassed x boot' period s next spent now_spent given given_after sent sent_after losses losses_after read read_after) r one') in
+        let one : HasPassed is_told role boot period s next spent now_spent given given_after sent sent_after losses losses_after read read_after =
+        subst (λ x. HasPassed is_told role x period s next spent now_spent given given_after sent sent_after losses losses_after read read_after) b
+        (subst (λ x. HasPassed is_told x boot' period s next spent now_spent given given_after sent sent_after losses losses_after read read_after) r one') in
         record {
           turns = come.turns ++ one.turns;
           posts = come.posts ++ one.posts;
@@ -65,19 +65,19 @@ module _ {S : Type 0} (role : Role S) (boot : Boot) (period limit : ℕ) (start 
 
     -- what it has kept by then, one list of records after the other
     abbrev pub so_far : List (List Record)
-    so_far = kept_through role boot period given_before start given come.turns come.posts s come.comes
+    so_far = kept_through is_told role boot period given_before start given come.turns come.posts s come.comes
 
     -- a pass of the node that this is
     as_ours : (leaves : Option Deed → Type 0) (role' : Role S) (boot' : Boot) → role' ≡ role → boot' ≡ boot → (said : Status)
-        → HasEnded role' boot' period limit spent s given given_after sent sent_after losses losses_after read read_after leaves said
-        → HasEnded role boot period limit spent s given given_after sent sent_after losses losses_after read read_after leaves said
+        → HasEnded is_told role' boot' period limit spent s given given_after sent sent_after losses losses_after read read_after leaves said
+        → HasEnded is_told role boot period limit spent s given given_after sent sent_after losses losses_after read read_after leaves said
     as_ours leaves role' boot' r b said one =
-        subst (λ x. HasEnded role x period limit spent s given given_after sent sent_after losses losses_after read read_after leaves said) b
-        (subst (λ x. HasEnded x boot' period limit spent s given given_after sent sent_after losses losses_after read read_after leaves said) r one)
+        subst (λ x. HasEnded is_told role x period limit spent s given given_after sent sent_after losses losses_after read read_after leaves said) b
+        (subst (λ x. HasEnded is_told x boot' period limit spent s given given_after sent sent_after losses losses_after read read_after leaves said) r one)
 
     serves : (leaves : Option Deed → Type 0) (said : Status)
-        → HasEnded role boot period limit spent s given given_after sent sent_after losses losses_after read read_after leaves said
-        → IsServed role boot period start limit given_before given_after sent_before sent_after losses_before losses_after unread read_after said
+        → HasEnded is_told role boot period limit spent s given given_after sent sent_after losses losses_after read read_after leaves said
+        → IsServed is_told role boot period start limit given_before given_after sent_before sent_after losses_before losses_after unread read_after said
     serves leaves said one = record {
       turns = come.turns;
       posts = come.posts;
@@ -88,24 +88,24 @@ module _ {S : Type 0} (role : Role S) (boot : Boot) (period limit : ℕ) (start 
       received = takes_more given_before given given_after (datagrams_in come.turns) (datagrams_in one.undone.turn ++ one.undone.unread) come.received one.received;
       read = reads_more unread read read_after (readings_in come.turns) (readings_in one.undone.turn) come.reads one.reads;
       sends = sends_join sent_before sent sent_after losses_before losses losses_after come.posts one.undone.more come.sends one.sends;
-      ending = subst (λ n. EndsServing role boot period limit n given s one.undone said) come.spends one.ending;
+      ending = subst (λ n. EndsServing is_told role boot period limit n given s one.undone said) come.spends one.ending;
     }
 
     pub is_served : (leaves : Option Deed → Type 0) (role' : Role S) (boot' : Boot) → role' ≡ role → boot' ≡ boot → (said : Status)
-        → HasEnded role' boot' period limit spent s given given_after sent sent_after losses losses_after read read_after leaves said
-        → IsServed role boot period start limit given_before given_after sent_before sent_after losses_before losses_after unread read_after said
+        → HasEnded is_told role' boot' period limit spent s given given_after sent sent_after losses losses_after read read_after leaves said
+        → IsServed is_told role boot period start limit given_before given_after sent_before sent_after losses_before losses_after unread read_after said
     is_served leaves role' boot' r b said one = serves leaves said (as_ours leaves role' boot' r b said one)
 
     -- and what its disk keeps, which was this one at its start, and this one before the pass
-    module _ {D : Type 0} (is_told : Bool) (kept : D → Kept) (moment : D → ℕ) (left_since : D → ℕ → List ℕ → Type 0)
+    module _ {D : Type 0} (kept : D → Kept) (moment : D → ℕ) (left_since : D → ℕ → List ℕ → Type 0)
         (counts_now : (disk : D) (t : ℕ) (image : List ℕ) → IsTrue is_told → t ≤ moment disk → IsImage (kept disk) image → left_since disk t image)
         (first disk last : D) (keeps : IsTrue is_told → KeptInTurn moment left_since first start.kept so_far s.kept disk) where
       on_disk : (said : Status)
-          → HasEnded role boot period limit spent s given given_after sent sent_after losses losses_after read read_after
+          → HasEnded is_told role boot period limit spent s given given_after sent sent_after losses losses_after read read_after
           (KeepsWith is_told moment left_since disk last s.kept) said
-          → (it : IsServed role boot period start limit given_before given_after sent_before sent_after losses_before losses_after unread read_after said)
+          → (it : IsServed is_told role boot period start limit given_before given_after sent_before sent_after losses_before losses_after unread read_after said)
           × KeepsServed is_told kept moment left_since first last start
-          (kept_through role boot period given_before start it.to_come it.turns it.posts it.end it.comes) it.end it.undone
+          (kept_through is_told role boot period given_before start it.to_come it.turns it.posts it.end it.comes) it.end it.undone
       unfolding serves
       on_disk said one =
           let met = one.undone.met in (
@@ -120,18 +120,18 @@ module _ {S : Type 0} (role : Role S) (boot : Boot) (period limit : ℕ) (start 
           )
 
       pub is_served_on : (role' : Role S) (boot' : Boot) → role' ≡ role → boot' ≡ boot → (said : Status)
-          → HasEnded role' boot' period limit spent s given given_after sent sent_after losses losses_after read read_after
+          → HasEnded is_told role' boot' period limit spent s given given_after sent sent_after losses losses_after read read_after
           (KeepsWith is_told moment left_since disk last s.kept) said
-          → (it : IsServed role boot period start limit given_before given_after sent_before sent_after losses_before losses_after unread read_after said)
+          → (it : IsServed is_told role boot period start limit given_before given_after sent_before sent_after losses_before losses_after unread read_after said)
           × KeepsServed is_told kept moment left_since first last start
-          (kept_through role boot period given_before start it.to_come it.turns it.posts it.end it.comes) it.end it.undone
+          (kept_through is_told role boot period given_before start it.to_come it.turns it.posts it.end it.comes) it.end it.undone
       is_served_on role' boot' r b said one = on_disk said (as_ours (KeepsWith is_told moment left_since disk last s.kept) role' boot' r b said one)
 
   -- all passes were made that can be counted
   module _ (spent : ℕ) (given sent : Option (List Datagram)) (losses : ℕ) (read : Option (List ℕ)) (s : Served S)
-      (come : HasCome role boot period start s spent given_before given sent_before sent losses_before losses unread read) where
+      (come : HasCome is_told role boot period start s spent given_before given sent_before sent losses_before losses unread read) where
     gives_up : (leaves : Option Deed → Type 0) → leaves None
-        → HasEnded role boot period limit spent s given given sent sent losses losses read read leaves status.OutOfMemory
+        → HasEnded is_told role boot period limit spent s given given sent sent losses losses read read leaves status.OutOfMemory
     gives_up leaves none = record {
       undone = nothing_undone;
       received = takes_none given;
@@ -141,52 +141,52 @@ module _ {S : Type 0} (role : Role S) (boot : Boot) (period limit : ℕ) (start 
       leaves = none;
     }
 
-    pub gave_up : IsServed role boot period start limit given_before given sent_before sent losses_before losses unread read status.OutOfMemory
+    pub gave_up : IsServed is_told role boot period start limit given_before given sent_before sent losses_before losses unread read status.OutOfMemory
     gave_up = serves spent given sent losses read s come given sent losses read (λ met. Unit {0}) status.OutOfMemory (gives_up (λ met. Unit {0}) tt)
 
-    pub gave_up_on : {D : Type 0} (is_told : Bool) (kept : D → Kept) (moment : D → ℕ) (left_since : D → ℕ → List ℕ → Type 0)
+    pub gave_up_on : {D : Type 0} (kept : D → Kept) (moment : D → ℕ) (left_since : D → ℕ → List ℕ → Type 0)
         → ((disk : D) (t : ℕ) (image : List ℕ) → IsTrue is_told → t ≤ moment disk → IsImage (kept disk) image → left_since disk t image)
         → (first disk last : D)
-        → (IsTrue is_told → KeptInTurn moment left_since first start.kept (kept_through role boot period given_before start given come.turns come.posts s come.comes)
+        → (IsTrue is_told → KeptInTurn moment left_since first start.kept (kept_through is_told role boot period given_before start given come.turns come.posts s come.comes)
         s.kept disk)
         → KeepsWith is_told moment left_since disk last s.kept None
-        → (it : IsServed role boot period start limit given_before given sent_before sent losses_before losses unread read status.OutOfMemory)
+        → (it : IsServed is_told role boot period start limit given_before given sent_before sent losses_before losses unread read status.OutOfMemory)
         × KeepsServed is_told kept moment left_since first last start
-        (kept_through role boot period given_before start it.to_come it.turns it.posts it.end it.comes) it.end it.undone
-    gave_up_on is_told kept moment left_since counts_now first disk last keeps closed =
-        on_disk spent given sent losses read s come given sent losses read is_told kept moment left_since counts_now first disk last keeps status.OutOfMemory
+        (kept_through is_told role boot period given_before start it.to_come it.turns it.posts it.end it.comes) it.end it.undone
+    gave_up_on kept moment left_since counts_now first disk last keeps closed =
+        on_disk spent given sent losses read s come given sent losses read kept moment left_since counts_now first disk last keeps status.OutOfMemory
         (gives_up (KeepsWith is_told moment left_since disk last s.kept) closed)
 
 pub cause_from : (l0 l1 l2 c0 c1 c2 : ℕ) (said : Status) → l1 ≡ l0 → c1 ≡ c0 → HasServeCause l1 l2 c1 c2 said → HasServeCause l0 l2 c0 c2 said
 cause_from l0 l1 l2 c0 c1 c2 said e f is = subst (λ n. HasServeCause n l2 c0 c2 said) e (subst (λ n. HasServeCause l1 l2 n c2 said) f is)
 
 -- a pass of a node that has come so far, and what its disk keeps
-module _ {S : Type 0} (role : Role S) (boot : Boot) (period limit : ℕ) (start : Served S)
+module _ {S : Type 0} (is_told : Bool) (role : Role S) (boot : Boot) (period limit : ℕ) (start : Served S)
     (given_before sent_before : Option (List Datagram)) (losses_before : ℕ) (unread : Option (List ℕ))
-    {D : Type 0} (is_told : Bool) (kept : D → Kept) (moment : D → ℕ) (left_since : D → ℕ → List ℕ → Type 0) where
+    {D : Type 0} (kept : D → Kept) (moment : D → ℕ) (left_since : D → ℕ → List ℕ → Type 0) where
   -- the node has come so far, and its disk kept what it kept
   abbrev pub HasComeOn : D → D → ℕ → Option (List Datagram) → Option (List Datagram) → ℕ → Option (List ℕ) → Served S → Type 0
   HasComeOn first disk spent given sent losses read s =
-      (come : HasCome role boot period start s spent given_before given sent_before sent losses_before losses unread read)
-      × (IsTrue is_told → KeptInTurn moment left_since first start.kept (kept_through role boot period given_before start given come.turns come.posts s come.comes)
+      (come : HasCome is_told role boot period start s spent given_before given sent_before sent losses_before losses unread read)
+      × (IsTrue is_told → KeptInTurn moment left_since first start.kept (kept_through is_told role boot period given_before start given come.turns come.posts s come.comes)
       s.kept disk)
 
   pub begins_on_disk : (disk : D) → (IsTrue is_told → KeepsNow moment left_since disk start.kept)
       → HasComeOn disk disk 0 given_before sent_before losses_before unread start
   unfolding has_begun_serving
   begins_on_disk disk here =
-      (has_begun_serving role boot period limit start given_before sent_before losses_before unread, λ told. from_start (here told))
+      (has_begun_serving is_told role boot period limit start given_before sent_before losses_before unread, λ told. from_start (here told))
 
   pub comes_on_disk : (first disk next_disk : D) (spent : ℕ) (given sent : Option (List Datagram)) (losses : ℕ) (read : Option (List ℕ)) (s : Served S)
       → HasComeOn first disk spent given sent losses read s
       → (given_after sent_after : Option (List Datagram)) (losses_after : ℕ) (read_after : Option (List ℕ)) (role' : Role S) (boot' : Boot) → role' ≡ role → boot' ≡ boot
-      → (next : Served S) (now_spent : ℕ) → HasPassed role' boot' period s next spent now_spent given given_after sent sent_after losses losses_after read read_after
+      → (next : Served S) (now_spent : ℕ) → HasPassed is_told role' boot' period s next spent now_spent given given_after sent sent_after losses losses_after read read_after
       → KeepsOn is_told moment left_since disk next_disk (s.kept ∷ next.kept ∷ []) → (IsTrue is_told → KeepsNow moment left_since next_disk next.kept)
       → HasComeOn first next_disk now_spent given_after sent_after losses_after read_after next
   unfolding comes_on
   comes_on_disk first disk next_disk spent given sent losses read s (come, keeps) given_after sent_after losses_after read_after role' boot' r b next now_spent one more here = (
-    comes_on role boot period limit start given_before sent_before losses_before unread spent given sent losses read s come given_after sent_after losses_after read_after
+    comes_on is_told role boot period limit start given_before sent_before losses_before unread spent given sent losses read s come given_after sent_after losses_after read_after
         role' boot' r b next now_spent one,
-    λ told. then_next (kept_through role boot period given_before start given come.turns come.posts s come.comes) s.kept next.kept disk next_disk
+    λ told. then_next (kept_through is_told role boot period given_before start given come.turns come.posts s come.comes) s.kept next.kept disk next_disk
         (keeps told) (more told) (here told),
   )

@@ -1,14 +1,28 @@
 -- The disk's count of faults, from a node's start to its end.
-use Rattle.std.proofs.Common.{ℕ, ◌≡◌, subst, inl}
+use Rattle.std.proofs.Common.{ℕ, ◌≡◌, ◌∙◌, ap, subst, inl, Bool, None, List, [], ◌∷◌}
+use Rattle.std.specs.Prelude.{IsTrue}
+use Rattle.disk_model.specs.Disk.{Kept, IsImage, Elapses}
+use Rattle.disk_model.proofs.Moments.{unchanged, weaker}
+use Rattle.xt_messages.specs.declared.record.Record.{Record}
 use Rattle.xt_messages.specs.declared.status.Status.{Status}
-use Rattle.xt_messages.specs.declared.status.Status.TheVariants as status
-use Rattle.node_loop.specs.Events.{HasDiskCause, TellsDiskCount}
+use Rattle.xt_journal.specs.Format.{KeepsJournal}
+use Rattle.xt_journal.proofs.Steps.{each_stands}
+use Rattle.object_store.specs.Texts.{texts_of}
+use Rattle.node_runs.specs.Keeping.{StandsForOne, KeepsPut}
+use Rattle.node_loop.specs.Events.{HasDiskCause}
 
 -- where the count hasn't risen until now, what ends the node now has its cause since the start
-pub cause_since : (first before after : ℕ) (ended : Status) → before ≡ first → TellsDiskCount before after ended → TellsDiskCount first after ended
-cause_since first before after ended same cause = subst (λ n. TellsDiskCount n after ended) same cause
+pub cause_since : (first before after : ℕ) (ended : Status) → before ≡ first → HasDiskCause before after ended → HasDiskCause first after ended
+cause_since first before after ended same cause = subst (λ n. HasDiskCause n after ended) same cause
 
--- what is reported of a put is reported of the event
-pub tells_of_put : (before after : ℕ) (ended : Status) → HasDiskCause before after ended → TellsDiskCount before after ended
-tells_of_put before after (status.DiskFault count) cause = (inl cause.0, cause.1)
-tells_of_put before after _ cause = cause
+-- a disk that was handed back, and has counted a fault, keeps what it kept
+pub counted_keeps : {D : Type 0} (is_told : Bool) (kept : D → Kept) (moment : D → ℕ) (left_since : D → ℕ → List ℕ → Type 0) (disk closed after : D) (records : List Record)
+    → closed ≡ disk → (IsTrue is_told → KeepsJournal (kept disk) (texts_of records))
+    → ((image : List ℕ) → IsTrue is_told → left_since disk (moment disk) image → IsImage (kept disk) image)
+    → kept after ≡ kept closed → (IsTrue is_told → Elapses (moment closed) (moment after) (left_since closed) (left_since after) (kept after))
+    → KeepsPut is_told moment left_since disk after records None
+counted_keeps is_told kept moment left_since disk closed after records is keeps only same time told =
+    weaker moment left_since disk after (IsImage (kept disk)) (StandsForOne (records ∷ records ∷ []))
+    (unchanged moment left_since disk after (kept disk) (kept after) (same ∙ ap kept is) (λ image left. only image told left)
+    (subst (λ d. Elapses (moment d) (moment after) (left_since d) (left_since after) (kept after)) is (time told)))
+    (λ image was. inl (each_stands (kept disk) (texts_of records) image (keeps told) was))

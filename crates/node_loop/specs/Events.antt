@@ -1,6 +1,6 @@
 -- what an event does to a served node
-use Rattle.std.specs.Prelude.{ℕ, ◌≡◌, ◌⊎◌, Option, Some, None, List, []}
-use Rattle.std.specs.Option.{IfSome}
+use Rattle.std.specs.Prelude.{ℕ, Bool, ◌≡◌, ◌⊎◌, Option, Some, None, List, []}
+use Rattle.std.specs.Option.{IfSome, option_map}
 use Rattle.std.specs.List.{All}
 use Rattle.xt_base.specs.Faults.{Rose}
 use Rattle.xt_base.specs.declared.ids.NodeId.{NodeId}
@@ -12,6 +12,7 @@ use Rattle.xt_messages.specs.declared.status.Status.TheVariants as status
 use Rattle.xt_messages.specs.Limits.{FitsMessage, FitsRecord}
 use Rattle.xt_protocol.specs.Folds.{fold_of, IsInPlace}
 use Rattle.xt_protocol.specs.declared.turned.Turned.{Turned}
+use Rattle.replica_records.specs.Known.{as_known, Sees}
 use Rattle.client_rows.specs.Steps.{Step}
 use Rattle.world_spec.specs.NodeSteps.{one_more}
 use Rattle.node_links.specs.declared.link.Datagram.{Datagram}
@@ -25,26 +26,24 @@ pub record Fits (records : List Record) (turned : Turned) : Type 0 where
   pub record_next : IfSome turned.rec (λ rec. FitsRecord rec × IsInPlace (fold_of records) rec)
   pub messages : All FitsMessage turned.outs
 
--- The node is in the state of the step, has put its record and sent its messages.
-pub record HasStepped {S : Type 0} (step : Step S) (node : NodeId) (boot : Boot) (book : Book) (before : ℕ) (records : List Record) (journal : JournalAt)
+-- This holds of what a node sees of these records.
+abbrev pub Seeing : Bool → List Record → (List Record → Type 0) → Type 0
+Seeing told records holds = (seen : List Record) × Sees told records seen × holds seen
+
+-- The node is in the state of the step, has put its record and sent its messages. What is known of that record is kept.
+pub record HasStepped {S : Type 0} (told : Bool) (step : Step S) (node : NodeId) (boot : Boot) (book : Book) (before : ℕ) (records : List Record) (journal : JournalAt)
     (state : S) (kept : List Record) (stands : JournalAt) (outs : List Msg) (count : ℕ) (handed : List Datagram → Type 0) : Type 0 where
   pub state_is : state ≡ step.state
-  pub kept_is : kept ≡ one_more records step.turned.rec
+  pub kept_is : kept ≡ one_more records (option_map (as_known told) step.turned.rec)
   pub journal_is : stands ≡ grown journal step.turned.rec
   pub outs_are : outs ≡ step.turned.outs
   pub sent : HasPosted (posted node boot book (none_posted before) step.turned.outs) count handed
 
 -- A fault of the disk is reported only where its count rose in the call, and with that count; whatever else ends a node, no call to the disk
--- had failed.
+-- had failed. A body that can't be read, or that no record put, is counted by the disk too.
 abbrev pub HasDiskCause : ℕ → ℕ → Status → Type 0
 HasDiskCause before after (status.DiskFault count) = Rose before after × (count ≡ after)
 HasDiskCause before after _ = after ≡ before
-
--- The same where a node serves, but a fault of the disk is also reported, with the count as it was, where a step needs a body that no
--- record put. That happens in no run of the definitions, since what a node needs is held; it isn't proved of the code.
-abbrev pub TellsDiskCount : ℕ → ℕ → Status → Type 0
-TellsDiskCount before after (status.DiskFault count) = (Rose before after ⊎ (after ≡ before)) × (count ≡ after)
-TellsDiskCount before after _ = after ≡ before
 
 -- why a record isn't put
 abbrev pub EndsPut : Status → Type 0

@@ -26,7 +26,7 @@ pub record HasSettled {N S D : Type 0} {d : Ghosts D} (role : N → Role S) (sta
   pub runs : IfOk result (λ kept. runs_on new.node (records_of kept))
   -- at `Ok` it is a pass of the node, in which its records were rewritten or left
   pub passed : (period : ℕ) (to_come : Option (List Datagram)) → IfOk result (λ kept.
-      Passes (role old.node) old.sender.boot period to_come (served_of state old store) [] [] (served_of state new kept))
+      Passes d.is_told (role old.node) old.sender.boot period to_come (served_of state old store) [] [] (served_of state new kept))
   -- at `Err` it ended the node
   pub ends : (period : ℕ) → IfErr result (λ ended.
       EndsSettling (role old.node) old.sender.boot period (served_of state old store)

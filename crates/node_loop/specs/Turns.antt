@@ -8,6 +8,7 @@ use Rattle.xt_messages.specs.declared.record.KeepBody.{KeepBody}
 use Rattle.xt_messages.specs.declared.record.Record.{Record}
 use Rattle.xt_messages.specs.declared.status.Status.{Status}
 use Rattle.xt_messages.specs.declared.status.Status.TheVariants as status
+use Rattle.replica_records.specs.Known.{Sees}
 use Rattle.world_spec.specs.World.{Deed, rewrites}
 use Rattle.node_links.specs.declared.link.Datagram.{Datagram}
 use Rattle.node_links.specs.Streams.{Takes}
@@ -54,25 +55,25 @@ CannotBegin left before after unread read (status.ClockFault count) =
 CannotBegin left before after unread read _ = ⊥
 
 -- one pass: a turn, a message to itself, or a look at the records after a Wake, in which they can be rewritten
-pub record HasPassed {S : Type 0} (role : Role S) (boot : Boot) (period : ℕ) (old new : Served S) (spent now_spent : ℕ)
+pub record HasPassed {S : Type 0} (told : Bool) (role : Role S) (boot : Boot) (period : ℕ) (old new : Served S) (spent now_spent : ℕ)
     (before after sent_before sent_after : Option (List Datagram)) (losses_before losses_after : ℕ) (unread read : Option (List ℕ)) : Type 0 where
   pub turns : List Turn
   pub posts : List Datagram
-  pub passes : Passes role boot period before old turns posts new
+  pub passes : Passes told role boot period before old turns posts new
   pub received : Takes before after (datagrams_in turns)
   pub reads : Reads unread read (readings_in turns)
   pub sends : Sends sent_before sent_after losses_before losses_after posts
   pub spends : now_spent ≡ spent + length turns
 
 -- a pass that ends the node, and what it leaves on the disk; `left deed` says that a crash leaves the records with that deed or without it
-pub record HasEnded {S : Type 0} (role : Role S) (boot : Boot) (period : ℕ) (limit spent : ℕ) (old : Served S)
+pub record HasEnded {S : Type 0} (told : Bool) (role : Role S) (boot : Boot) (period : ℕ) (limit spent : ℕ) (old : Served S)
     (before after sent_before sent_after : Option (List Datagram)) (losses_before losses_after : ℕ) (unread read : Option (List ℕ))
     (left : Option Deed → Type 0) (said : Status) : Type 0 where
   pub undone : Undone
   pub received : Takes before after (datagrams_in undone.turn ++ undone.unread)
   pub reads : Reads unread read (readings_in undone.turn)
   pub sends : Sends sent_before sent_after losses_before losses_after undone.more
-  pub ending : EndsServing role boot period limit spent before old undone said
+  pub ending : EndsServing told role boot period limit spent before old undone said
   pub leaves : left undone.met
 
 -- A rewriting of the records with these bodies that ends the node: the disk failed, or memory ran out. A crash leaves them rewritten or not;
@@ -93,18 +94,20 @@ EndsSettling role boot period s left status.OutOfMemory = left None ⊎ Rewritin
 EndsSettling role boot period s left _ = ⊥
 
 -- the node has come so far
-pub record HasCome {S : Type 0} (role : Role S) (boot : Boot) (period : ℕ) (start now : Served S) (spent : ℕ)
+pub record HasCome {S : Type 0} (told : Bool) (role : Role S) (boot : Boot) (period : ℕ) (start now : Served S) (spent : ℕ)
     (before after sent_before sent_after : Option (List Datagram)) (losses_before losses_after : ℕ) (unread read : Option (List ℕ)) : Type 0 where
   pub turns : List Turn
   pub posts : List Datagram
-  pub comes : Comes role boot period before start after turns posts now
+  pub comes : Comes told role boot period before start after turns posts now
   pub received : Takes before after (datagrams_in turns)
   pub reads : Reads unread read (readings_in turns)
   pub sends : Sends sent_before sent_after losses_before losses_after posts
   pub spends : spent ≡ length turns
 
--- an event was handled
-pub record HasActed {S : Type 0} (role : Role S) (boot : Boot) (old : Served S) (happens : Event) (new : Served S)
+-- an event was handled, on what the node sees of its records
+pub record HasActed {S : Type 0} (told : Bool) (role : Role S) (boot : Boot) (old : Served S) (happens : Event) (new : Served S)
     (handed : List Datagram → Type 0) : Type 0 where
-  pub is : new ≡ handles role boot 0 old happens
-  pub sends : handed (mails role boot 0 old happens)
+  pub seen : List Record
+  pub sees : Sees told old.kept seen
+  pub is : new ≡ handles told role boot 0 old seen happens
+  pub sends : handed (mails role boot 0 old seen happens)

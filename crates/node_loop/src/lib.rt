@@ -6,7 +6,6 @@ mod event;
 mod laws;
 mod node;
 mod opening;
-mod reader;
 mod sending;
 mod serving;
 mod site;

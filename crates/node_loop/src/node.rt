@@ -1,4 +1,4 @@
-ghost use Rattle.std.specs.Prelude.{◌≡◌, ◌<◌, ◌^◌, List, Ok, Some, IfOk};
+ghost use Rattle.std.specs.Prelude.{◌≡◌, ◌<◌, ◌^◌, Bool, List, Ok, Some, IfOk};
 ghost use Rattle.std.specs.Option.{IfSome};
 ghost use Rattle.xt_messages.specs.Limits.{FitsEvent};
 ghost use Rattle.xt_messages.specs.declared.record.Record.{Record};
@@ -6,6 +6,7 @@ ghost use Rattle.xt_protocol.specs.Forgetting.{rewritten};
 ghost use Rattle.object_store.specs.Texts.{AreRecords};
 ghost use Rattle.world_spec.specs.NodeSteps.{one_more};
 ghost use Rattle.object_versions.specs.KeptBodies.{fault_of, ReadsOnly};
+ghost use Rattle.replica_records.specs.Known.{known_of, Sees};
 ghost use Rattle.node_loop.specs.Events.{Fits};
 
 use object_versions::{Bodies, StepErr};
@@ -45,15 +46,17 @@ pub trait Node {
     ) -> Result<Turned, StepErr>
         requires clock { now < 2 ^ 62 }
         requires fits { FitsEvent ev.now }
-        requires runs { runs_on self.old (B.records bodies.old) }
-        ensures step { IfOk result (λ turned.
-            (role self.old).step (B.records bodies.old) (state self.old) now ev.now ≡
+        requires runs { (records : List Record) → B.agrees bodies.old records →
+            runs_on self.old records }
+        ensures step { IfOk result (λ turned. (records : List Record) → B.agrees bodies.new records →
+            (role self.old).step records (state self.old) now ev.now ≡
             record { state = state self.new; turned = turned }) }
-        ensures fits { IfOk result (λ turned. Fits (B.records bodies.old) turned) }
-        ensures runs { IfOk result (λ turned.
-            runs_on self.new (one_more (B.records bodies.old) turned.rec)) }
+        ensures fits { IfOk result (λ turned. (records : List Record) → B.agrees bodies.new records →
+            Fits records turned) }
+        ensures runs { IfOk result (λ turned. (records : List Record) → B.agrees bodies.new records →
+            runs_on self.new (one_more records turned.rec)) }
         ensures same { IfOk result (λ turned. role self.new ≡ role self.old) }
-        ensures reads { ReadsOnly B.records B.fault_count bodies.old bodies.new (fault_of result) };
+        ensures reads { ReadsOnly B.agrees B.fault_count bodies.old bodies.new (fault_of result) };
 
     /// The held bodies that it needs; None where its records are never rewritten.
     fn keep(&self, alloc: Global) -> Result<Option<Keep>, OutOfMemory>
@@ -73,4 +76,12 @@ pub trait Node {
     /// Whether a message ends it.
     fn stops(&self, msg: &Msg) -> Result<bool, OutOfMemory>
         ensures { result ≡ Ok ((role self.now).stops msg.now) };
+
+    /// Where it runs on what is known of its records, it runs on what it sees of them.
+    ghost seen_runs: { (node : Self) (told : Bool) (known seen : List Record) →
+        Sees told known seen → runs_on node known → runs_on node seen };
+
+    /// Where it runs on records, it runs on what is known of them.
+    ghost known_runs: { (node : Self) (told : Bool) (records : List Record) →
+        runs_on node records → runs_on node (known_of told records) };
 }

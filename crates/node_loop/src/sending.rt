@@ -9,12 +9,14 @@ use node_mail::{Book, Sender};
 use std::alloc::Global;
 use xt_base::OutOfMemory;
 use xt_messages::Msg;
+use xt_parts::PartBuffer;
 
 /// Sends one of a step's messages, unless it is to the node itself or nobody knows where its receiver is.
 #[tactic(auto, using(crate::proofs::Sent::nothing_sent))]
 fn send_one<L: Link>(
     alloc: Global,
     sender: &mut Sender,
+    part: &mut PartBuffer,
     book: &Book,
     msg: &Msg,
     link: &mut L,
@@ -35,7 +37,7 @@ fn send_one<L: Link>(
     }
     match book.address(msg.to) {
         None => Ok(()),
-        Some(address) => sender.send_to(alloc, &address, msg, link),
+        Some(address) => sender.send_to(alloc, part, &address, msg, link),
     }
 }
 
@@ -43,6 +45,7 @@ fn send_one<L: Link>(
 pub fn send_all<L: Link>(
     alloc: Global,
     sender: &mut Sender,
+    part: &mut PartBuffer,
     book: &Book,
     msgs: &[Msg],
     link: &mut L,
@@ -60,7 +63,7 @@ pub fn send_all<L: Link>(
         (Sends (L.sent link.old) (L.sent link.new) (L.loss_count link.old) (L.loss_count link.new))) }
 {
     for msg in msgs {
-        send_one(alloc, sender, book, msg, link)?;
+        send_one(alloc, sender, part, book, msg, link)?;
     }
     Ok(())
 }

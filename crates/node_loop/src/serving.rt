@@ -7,7 +7,7 @@ ghost use Rattle.node_runs.specs.Serving.{HasServeCause, IsServed};
 ghost use Rattle.node_runs.specs.Keeping.{KeepsOn, KeepsWith, KeepsServed};
 ghost use Rattle.node_loop.specs.Turns.{HasPassed, HasEnded};
 ghost use Rattle.node_loop.specs.Settling.{served_of};
-ghost use Rattle.node_loop.specs.Events.{TellsDiskCount};
+ghost use Rattle.node_loop.specs.Events.{HasDiskCause};
 
 use crate::event::Ended;
 use crate::node::Node;
@@ -46,12 +46,12 @@ impl<N: Node> Site<N> {
         ensures runs { IfOk result (λ kept. N.runs_on self.new.node (records_of kept)) }
         ensures faults { IfOk result (λ kept. (L.fault_count link.new ≡ L.fault_count link.old)
             × (C.fault_count clock.new ≡ C.fault_count clock.old)) }
-        ensures passed { IfOk result (λ kept. HasPassed (N.role self.old.node) self.old.sender.boot
+        ensures passed { IfOk result (λ kept. HasPassed D.is_told (N.role self.old.node) self.old.sender.boot
             bounds.period (served_of N.state self.old store) (served_of N.state self.new kept) spent.old spent.new
             (L.given link.old) (L.given link.new) (L.sent link.old) (L.sent link.new)
             (L.loss_count link.old) (L.loss_count link.new)
             (C.readings clock.old) (C.readings clock.new)) }
-        ensures ended { IfErr result (λ ended. HasEnded (N.role self.old.node) self.old.sender.boot
+        ensures ended { IfErr result (λ ended. HasEnded D.is_told (N.role self.old.node) self.old.sender.boot
             bounds.period bounds.turns spent.old (served_of N.state self.old store)
             (L.given link.old) (L.given link.new) (L.sent link.old) (L.sent link.new)
             (L.loss_count link.old) (L.loss_count link.new)
@@ -65,7 +65,7 @@ impl<N: Node> Site<N> {
             (C.fault_count clock.old) (C.fault_count clock.new) ended.status) }
         ensures disk { IfOk result (λ kept. D.fault_count (disk_of kept) ≡
             D.fault_count (disk_of store)) }
-        ensures disk_cause { IfErr result (λ ended. TellsDiskCount (D.fault_count (disk_of store))
+        ensures disk_cause { IfErr result (λ ended. HasDiskCause (D.fault_count (disk_of store))
             (D.fault_count ended.disk) ended.status) }
     {
         if let Some(msg) = self.own.take() {
@@ -110,21 +110,21 @@ pub fn serve<N: Node, L: Link, C: Clock, D: Disk>(
     requires home { site.old.sender.node ≡ (N.role site.old.node).node }
     requires own { All FitsMessage site.old.own }
     requires runs { N.runs_on site.old.node (records_of store) }
-    ensures served { IsServed (N.role site.old.node) site.old.sender.boot bounds.period
+    ensures served { IsServed D.is_told (N.role site.old.node) site.old.sender.boot bounds.period
         (served_of N.state site.old store) bounds.turns
         (L.given link.old) (L.given link.new) (L.sent link.old) (L.sent link.new)
         (L.loss_count link.old) (L.loss_count link.new)
         (C.readings clock.old) (C.readings clock.new) result.0 }
     ensures cause { HasServeCause (L.fault_count link.old) (L.fault_count link.new)
         (C.fault_count clock.old) (C.fault_count clock.new) result.0 }
-    ensures disk_cause { TellsDiskCount (D.fault_count (disk_of store)) (D.fault_count result.1) result.0 }
+    ensures disk_cause { HasDiskCause (D.fault_count (disk_of store)) (D.fault_count result.1) result.0 }
     ensures keeps { let start = served_of N.state site.old store in
-        (s : IsServed (N.role site.old.node) site.old.sender.boot bounds.period start bounds.turns
+        (s : IsServed D.is_told (N.role site.old.node) site.old.sender.boot bounds.period start bounds.turns
         (L.given link.old) (L.given link.new) (L.sent link.old) (L.sent link.new)
         (L.loss_count link.old) (L.loss_count link.new)
         (C.readings clock.old) (C.readings clock.new) result.0)
         × KeepsServed D.is_told D.kept D.moment D.left_since (disk_of store) result.1 start
-        (kept_through (N.role site.old.node) site.old.sender.boot bounds.period (L.given link.old) start
+        (kept_through D.is_told (N.role site.old.node) site.old.sender.boot bounds.period (L.given link.old) start
         s.to_come s.turns s.posts s.end s.comes) s.end s.undone }
 {
     let mut store = store;

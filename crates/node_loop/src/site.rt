@@ -8,8 +8,8 @@ ghost use Rattle.object_store.specs.Texts.{AreRecords};
 ghost use Rattle.node_loop.specs.Stores.{journal_at};
 ghost use Rattle.node_runs.specs.Links.{Sends};
 ghost use Rattle.node_runs.specs.Keeping.{KeepsOn, KeepsPut};
-ghost use Rattle.node_runs.specs.Runs.{handles, mails, meets, event_in, ends_event, next_due, is_due, area_at};
-ghost use Rattle.node_loop.specs.Events.{TellsDiskCount, EndsEvent};
+ghost use Rattle.node_runs.specs.Runs.{meets, event_in, ends_event, next_due, is_due, area_at};
+ghost use Rattle.node_loop.specs.Events.{HasDiskCause, EndsEvent, Seeing};
 ghost use Rattle.node_loop.specs.Turns.{standing, turn_of, IsWithin, HasActed};
 ghost use Rattle.node_loop.specs.Settling.{HasSettled, served_of};
 
@@ -25,12 +25,15 @@ use own_messages::OwnMessages;
 use std::alloc::Global;
 use xt_base::OutOfMemory;
 use xt_messages::{Event, Keep, Status};
+use xt_parts::PartBuffer;
 
 /// What a served node holds beside its store and its link.
 #[derive(Drop)]
 pub struct Site<N: Node> {
     pub node: N,
     pub sender: Sender,
+    /// Where the parts of a message are cut, one at a time.
+    pub part: PartBuffer,
     pub ears: Ears,
     pub own: OwnMessages,
     /// The reading that was used last.
@@ -126,27 +129,28 @@ impl<N: Node> Site<N> {
         ensures role { IfOk result (λ kept. N.role self.new.node ≡ N.role self.old.node) }
         ensures runs { IfOk result (λ kept. N.runs_on self.new.node (records_of kept)) }
         ensures own { IfOk result (λ kept. All FitsMessage self.new.own) }
-        ensures acted { IfOk result (λ kept. HasActed (N.role self.old.node) self.old.sender.boot
+        ensures acted { IfOk result (λ kept. HasActed D.is_told (N.role self.old.node) self.old.sender.boot
             (served_of N.state self.old store) happens.now (served_of N.state self.new kept)
             (Sends (L.sent link.old) (L.sent link.new) (L.loss_count link.old) (L.loss_count link.new))) }
-        ensures ends { IfErr result (λ ended. EndsEvent
-            ((N.role self.old.node).step (records_of store) (N.state self.old.node) self.old.clock happens.now)
+        ensures ends { IfErr result (λ ended. Seeing D.is_told (records_of store) (λ seen. EndsEvent
+            ((N.role self.old.node).step seen (N.state self.old.node) self.old.clock happens.now)
             (N.role self.old.node).node self.old.sender.boot self.old.ears.book self.old.sender.count
             (journal_at store)
             (Sends (L.sent link.old) (L.sent link.new) (L.loss_count link.old) (L.loss_count link.new))
             (KeepsPut D.is_told D.moment D.left_since (disk_of store) ended.disk (records_of store))
-            ended.status) }
+            ended.status)) }
         ensures keeps { IfOk result (λ kept. KeepsOn D.is_told D.moment D.left_since
             (disk_of store) (disk_of kept) (records_of store ∷ records_of kept ∷ [])) }
         ensures disk { IfOk result (λ kept. D.fault_count (disk_of kept) ≡
             D.fault_count (disk_of store)) }
-        ensures disk_cause { IfErr result (λ ended. TellsDiskCount (D.fault_count (disk_of store))
+        ensures disk_cause { IfErr result (λ ended. HasDiskCause (D.fault_count (disk_of store))
             (D.fault_count ended.disk) ended.status) }
     {
         let Handled { store, outs } = handle(
             alloc,
             &mut self.node,
             &mut self.sender,
+            &mut self.part,
             self.ears.book(),
             link,
             store,

@@ -6,7 +6,7 @@ ghost use Rattle.node_runs.specs.Serving.{HasServeCause};
 ghost use Rattle.node_runs.specs.Keeping.{KeepsOn, KeepsWith};
 ghost use Rattle.node_loop.specs.Turns.{HasPassed, HasEnded};
 ghost use Rattle.node_loop.specs.Settling.{served_of};
-ghost use Rattle.node_loop.specs.Events.{TellsDiskCount};
+ghost use Rattle.node_loop.specs.Events.{HasDiskCause};
 
 use crate::event::Ended;
 use crate::node::Node;
@@ -52,12 +52,12 @@ impl<N: Node> Site<N> {
         ensures runs { IfOk result (λ kept. N.runs_on self.new.node (records_of kept)) }
         ensures faults { IfOk result (λ kept. (L.fault_count link.new ≡ L.fault_count link.old)
             × (C.fault_count clock.new ≡ C.fault_count clock.old)) }
-        ensures passed { IfOk result (λ kept. HasPassed (N.role self.old.node) self.old.sender.boot
+        ensures passed { IfOk result (λ kept. HasPassed D.is_told (N.role self.old.node) self.old.sender.boot
             bounds.period (served_of N.state self.old store) (served_of N.state self.new kept) spent (spent + 1)
             (L.given link.old) (L.given link.new) (L.sent link.old) (L.sent link.new)
             (L.loss_count link.old) (L.loss_count link.new)
             (C.readings clock.old) (C.readings clock.new)) }
-        ensures ended { IfErr result (λ ended. HasEnded (N.role self.old.node) self.old.sender.boot
+        ensures ended { IfErr result (λ ended. HasEnded D.is_told (N.role self.old.node) self.old.sender.boot
             bounds.period bounds.turns spent (served_of N.state self.old store)
             (L.given link.old) (L.given link.new) (L.sent link.old) (L.sent link.new)
             (L.loss_count link.old) (L.loss_count link.new)
@@ -71,7 +71,7 @@ impl<N: Node> Site<N> {
             (C.fault_count clock.old) (C.fault_count clock.new) ended.status) }
         ensures disk { IfOk result (λ kept. D.fault_count (disk_of kept) ≡
             D.fault_count (disk_of store)) }
-        ensures disk_cause { IfErr result (λ ended. TellsDiskCount (D.fault_count (disk_of store))
+        ensures disk_cause { IfErr result (λ ended. HasDiskCause (D.fault_count (disk_of store))
             (D.fault_count ended.disk) ended.status) }
     {
         let left = self.due.saturating_sub(self.clock);

@@ -1,16 +1,18 @@
-ghost use Rattle.std.specs.Prelude.{◌≡◌, ◌+◌, IfOk, OnOk, OnErr};
+ghost use Rattle.std.specs.Prelude.{◌≡◌, ◌≤◌, ◌+◌, length, IfOk, OnOk, OnErr};
 ghost use Rattle.std.specs.List.{list_all};
 ghost use Rattle.xt_messages.specs.Limits.{FitsMessage};
+ghost use Rattle.xt_parts.specs.Part.{parts_of};
 ghost use Rattle.node_runs.specs.Links.{Sends, OneSent};
 ghost use Rattle.node_runs.specs.Posting.{sent_to, datagrams_to};
 
 use crate::book::Book;
+use message_ids::MessageId;
 use node_links::Link;
 use std::alloc::{AllocError, Global};
-use xt_base::{Address, Boot, NodeId, Octets, OutOfMemory};
+use xt_base::{Address, Boot, FRAME, NodeId, OutOfMemory};
 use xt_frames::encode;
 use xt_messages::Msg;
-use xt_parts::cut;
+use xt_parts::{PartBuffer, part_count};
 
 /// What a node sends in a boot, and how many messages it has sent.
 #[derive(Clone, Copy)]
@@ -33,27 +35,36 @@ fn hand<L: Link>(link: &mut L, to: &Address, part: &[u8]) -> bool
     }
 }
 
-/// Hands parts to a link, one after the other, and says whether each was taken. What fails is lost.
-fn send_parts<L: Link>(link: &mut L, to: &Address, parts: &[Octets]) -> bool
+/// Cuts a message into parts and hands them to a link, one after the other. Says whether each was taken. What fails is lost.
+fn send_parts<L: Link>(
+    link: &mut L,
+    to: &Address,
+    part: &mut PartBuffer,
+    id: MessageId,
+    message: &[u8],
+) -> bool
+    requires { length message.now ≤ FRAME }
     ensures given { L.given link.new ≡ L.given link.old }
     ensures faults { L.fault_count link.new ≡ L.fault_count link.old }
     ensures sends { (sends : Sends (L.sent link.old) (L.sent link.new) (L.loss_count link.old)
-        (L.loss_count link.new) (sent_to to.now parts.now))
+        (L.loss_count link.new) (sent_to to.now (parts_of id message.now)))
         × (result ≡ list_all (λ ok. ok) sends.taken) }
 {
     let mut all = true;
-    for part in parts {
+    for index in 0..part_count(message.len()) as u8 {
+        part.cut(id, message, index);
         all &= hand(link, to, part.as_slice());
     }
     all
 }
 
 impl Sender {
-    /// Sends a message to a node that has an address, and reports whether each of its parts was taken. Where no number is left,
-    /// the error is `OutOfMemory`.
+    /// Sends a message to a node that has an address, part by part, and reports whether each part was taken. Where no number is
+    /// left, the error is `OutOfMemory`.
     pub fn post<L: Link>(
         &mut self,
         alloc: Global,
+        part: &mut PartBuffer,
         address: &Address,
         msg: &Msg,
         link: &mut L,
@@ -74,17 +85,20 @@ impl Sender {
         let Some(number) = self.count.checked_add(1) else {
             return Err(AllocError);
         };
-        let Ok(parts) = cut(alloc, self.node, self.boot, number, frame.as_slice()) else {
-            return Err(AllocError);
-        };
         self.count = number;
-        Ok(send_parts(link, address, parts.as_slice()))
+        let id = MessageId {
+            sender: self.node,
+            boot: self.boot,
+            number,
+        };
+        Ok(send_parts(link, address, part, id, frame.as_slice()))
     }
 
     /// Sends a message to a node that has an address. What fails is lost.
     pub fn send_to<L: Link>(
         &mut self,
         alloc: Global,
+        part: &mut PartBuffer,
         address: &Address,
         msg: &Msg,
         link: &mut L,
@@ -101,7 +115,7 @@ impl Sender {
         ensures none { OnErr result ((L.sent link.new ≡ L.sent link.old)
             × (L.loss_count link.new ≡ L.loss_count link.old)) }
     {
-        self.post(alloc, address, msg, link)?;
+        self.post(alloc, part, address, msg, link)?;
         Ok(())
     }
 }

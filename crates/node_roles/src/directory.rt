@@ -16,6 +16,7 @@ impl Node for ServedDir {
     ghost use Rattle.server_rows.specs.Directory.{DirState};
     ghost use Rattle.server_limits.specs.Keeping.{DirRunsOn};
     ghost use Rattle.node_roles.specs.Roles.{dir_role};
+    ghost use Rattle.node_roles.specs.Seeing.{dir_seen_runs, dir_known_runs};
 
     ghost State = { DirState };
 
@@ -24,6 +25,10 @@ impl Node for ServedDir {
     ghost state = { λ d. d.dir.state };
 
     ghost runs_on = { λ d records. DirRunsOn records d.dir.state };
+
+    ghost seen_runs = { λ d told known seen. dir_seen_runs told known seen d.dir.state };
+
+    ghost known_runs = { λ d told records. dir_known_runs told records d.dir.state };
 
     fn id(&self) -> NodeId {
         self.dir.id()

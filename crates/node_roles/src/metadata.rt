@@ -16,6 +16,7 @@ impl Node for ServedMrc {
     ghost use Rattle.server_rows.specs.Metadata.{MrcState};
     ghost use Rattle.server_limits.specs.Keeping.{MrcRunsOn};
     ghost use Rattle.node_roles.specs.Roles.{mrc_role};
+    ghost use Rattle.node_roles.specs.Seeing.{mrc_seen_runs, mrc_known_runs};
 
     ghost State = { MrcState };
 
@@ -24,6 +25,10 @@ impl Node for ServedMrc {
     ghost state = { λ m. m.mrc.state };
 
     ghost runs_on = { λ m records. MrcRunsOn m.mrc.secret records m.mrc.state };
+
+    ghost seen_runs = { λ m told known seen. mrc_seen_runs m.mrc.secret told known seen m.mrc.state };
+
+    ghost known_runs = { λ m told records. mrc_known_runs m.mrc.secret told records m.mrc.state };
 
     fn id(&self) -> NodeId {
         self.mrc.id()

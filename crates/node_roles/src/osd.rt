@@ -15,6 +15,7 @@ pub struct ServedOsd {
 impl Node for ServedOsd {
     ghost use Rattle.xt_protocol.specs.OsdSteps.{OsdState};
     ghost use Rattle.node_roles.specs.Roles.{osd_role, OsdRunsOn};
+    ghost use Rattle.node_roles.specs.Seeing.{osd_seen_runs, osd_known_runs};
 
     ghost State = { OsdState };
 
@@ -23,6 +24,10 @@ impl Node for ServedOsd {
     ghost state = { λ o. o.osd.state };
 
     ghost runs_on = { λ o records. OsdRunsOn records o.osd.state };
+
+    ghost seen_runs = { λ o told known seen. osd_seen_runs told known seen o.osd.state };
+
+    ghost known_runs = { λ o told records. osd_known_runs told records o.osd.state };
 
     fn id(&self) -> NodeId {
         self.osd.id()

@@ -1,15 +1,18 @@
 -- what a disk keeps, from one put to the next
-use Rattle.std.proofs.Common.{ℕ, ◌≡◌, ◌≤◌, ◌⊎◌, refl, sym, subst, Bool, Option, Some, None, List, [], ◌∷◌, ◌++◌, inl, inr, ⊎_elim}
+use Rattle.std.proofs.Common.{ℕ, ◌≡◌, ◌≤◌, ◌⊎◌, refl, sym, ap, subst, Bool, Option, Some, None, List, [], ◌∷◌, ◌++◌, inl, inr, ⊎_elim}
 use Rattle.std.specs.Prelude.{IsTrue}
+use Rattle.std.specs.Option.{option_map}
 use Rattle.disk_model.specs.Disk.{Kept, IsImage, LeavesOnly}
 use Rattle.disk_model.proofs.Moments.{begun, weaker}
 use Rattle.xt_messages.specs.declared.record.Record.{Record}
 use Rattle.xt_journal.specs.Append.{IsWithOrWithout}
 use Rattle.xt_journal.specs.Format.{StandsFor, KeepsJournal}
 use Rattle.xt_journal.proofs.Steps.{each_stands}
+use Rattle.replica_records.specs.Known.{as_known}
 use Rattle.replica_records.specs.RecordText.{record_text}
 use Rattle.object_store.specs.Texts.{texts_of}
 use Rattle.object_store.proofs.Reading.{texts-push}
+use Rattle.object_store.proofs.Stored.{as_known_there}
 use Rattle.world_spec.specs.World.{Deed}
 use Rattle.world_spec.specs.NodeSteps.{one_more}
 use Rattle.node_runs.specs.Serving.{put_of}
@@ -27,9 +30,10 @@ one_of_later [] more image is = is
 one_of_later (records ∷ moments) more image is = inr (one_of_later moments more image is)
 
 -- one record more is done to records
-pub put_done : (kept : List Record) (rec : Option Record) → done_to kept (put_of rec) ≡ one_more kept rec
-put_done kept None = refl
-put_done kept (Some rec) = refl
+pub put_done : (is_told : Bool) (kept : List Record) (rec : Option Record) → IsTrue is_told
+    → one_more kept (option_map (as_known is_told) rec) ≡ done_to kept (put_of rec)
+put_done is_told kept None told = refl
+put_done is_told kept (Some rec) told = ap (λ (r : Record). kept ++ r ∷ []) (as_known_there is_told rec told)
 
 module _ {D : Type 0} (is_told : Bool) (kept : D → Kept) (moment : D → ℕ) (left_since : D → ℕ → List ℕ → Type 0) where
   -- a crash leaves now what the disk keeps
@@ -60,11 +64,12 @@ module _ {D : Type 0} (is_told : Bool) (kept : D → Kept) (moment : D → ℕ) 
   stays_so disk records keeps only = stays_closed disk disk records None refl keeps only
 
   -- a disk that is handed back with the records so far
-  pub closed_with : (before after closed : D) (records all : List Record) (met : Option Deed) → closed ≡ after → all ≡ done_to records met
+  pub closed_with : (before after closed : D) (records all : List Record) (met : Option Deed) → closed ≡ after
+      → (IsTrue is_told → all ≡ done_to records met)
       → KeepsOn is_told moment left_since before after (records ∷ all ∷ []) → KeepsWith is_told moment left_since before closed records met
   closed_with before after closed records all met is all_is keeps =
       subst (λ d. KeepsOn is_told moment left_since before d (records ∷ done_to records met ∷ [])) (sym is)
-      (subst (λ rs. KeepsOn is_told moment left_since before after (records ∷ rs ∷ [])) all_is keeps)
+      (λ told. subst (λ (rs : List Record). LeavesOnly moment left_since before after (StandsForOne (records ∷ rs ∷ []))) (all_is told) (keeps told))
 
   -- A record was put, or a put of it failed; or records were rewritten, or that failed.
   pub changes_one : (before after : D) (records new : List Record)

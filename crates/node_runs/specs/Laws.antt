@@ -1,5 +1,5 @@
 -- what every served node keeps to
-use Rattle.std.specs.Prelude.{◌≡◌, ◌≤◌, ℕ, Option, None, List, [], ◌∷◌, ◌++◌}
+use Rattle.std.specs.Prelude.{◌≡◌, ◌≤◌, ℕ, Bool, Option, None, List, [], ◌∷◌, ◌++◌}
 use Rattle.disk_model.specs.Disk.{LeavesOnly}
 use Rattle.xt_base.specs.declared.ids.Boot.{Boot}
 use Rattle.xt_messages.specs.declared.record.Record.{Record}
@@ -17,8 +17,8 @@ pub record GoesOn {S : Type 0} (role : Role S) (start s : Served S) : Type 0 whe
   pub clock : start.clock ≤ s.clock
 
 abbrev pub AllGoOn : (S : Type 0) → Type 0
-AllGoOn S = (role : Role S) (boot : Boot) (period : ℕ) (to_come left : Option (List Datagram)) (start s : Served S) (turns : List Turn)
-    (posted : List Datagram) → Comes role boot period to_come start left turns posted s → GoesOn role start s
+AllGoOn S = (told : Bool) (role : Role S) (boot : Boot) (period : ℕ) (to_come left : Option (List Datagram)) (start s : Served S) (turns : List Turn)
+    (posted : List Datagram) → Comes told role boot period to_come start left turns posted s → GoesOn role start s
 
 -- ---- no records come back that are older than those kept
 

@@ -1,6 +1,6 @@
 -- A node that is served: the run of its core on what comes, with its records, its messages to itself and what it posts.
 use Rattle.std.specs.Prelude.{ℕ, ◌≡◌, ◌<◌, ◌⊎◌, ◌+◌, ◌-◌, ◌*◌, max, nat_le, if◌then◌else◌, Bool, true, false, Option, Some, None, List, [], ◌∷◌, ◌++◌, length}
-use Rattle.std.specs.Option.{IfSome}
+use Rattle.std.specs.Option.{IfSome, option_map}
 use Rattle.xt_base.specs.Faults.{counted}
 use Rattle.xt_base.specs.declared.ids.NodeId.{NodeId}
 use Rattle.xt_base.specs.declared.ids.Boot.{Boot}
@@ -15,6 +15,7 @@ use Rattle.journal_areas.specs.declared.site.Area.{Area}
 use Rattle.journal_areas.specs.Areas.{end_in}
 use Rattle.journal_areas.specs.Sites.{area_of, moved, need_for}
 use Rattle.journal_moves.specs.Answers.{full_need}
+use Rattle.replica_records.specs.Known.{as_known, Sees}
 use Rattle.replica_records.specs.RecordText.{record_text}
 use Rattle.object_store.specs.Swaps.{size_of}
 use Rattle.client_rows.specs.Steps.{Step}
@@ -24,7 +25,7 @@ use Rattle.node_links.specs.Streams.{Takes}
 use Rattle.node_runs.specs.Hearing.{Ears, hears}
 use Rattle.node_runs.specs.Posting.{Posted, posted, none_posted}
 
--- The core of a node: its step on the records that it keeps, at a clock, on an event; which message ends it; and which bodies it
+-- The core of a node: its step on what it sees of its records, at a clock, on an event; which message ends it; and which bodies it
 -- needs, where its records can be rewritten with them, and what it is without the others. A node that holds no bodies never rewrites.
 pub record Role (S : Type 0) : Type 0 where
   pub node : NodeId
@@ -128,31 +129,18 @@ abbrev pub delivered : Option Msg → Option Event
 delivered None = None
 delivered (Some msg) = Some (event.Deliver msg)
 
+-- what doesn't depend on whether the disk's contents are known
 module _ {S : Type 0} (role : Role S) (boot : Boot) (period : ℕ) where
   -- what the step of an event posts
   abbrev pub posts : Served S → Step S → Posted
   posts s step = posted role.node boot s.ears.book (none_posted s.count) step.turned.outs
 
-  -- the step of an event
-  abbrev pub step_at : Served S → Event → Step S
-  step_at s happens = role.step s.kept s.state s.clock happens
+  -- the step of an event, where the node sees these records
+  abbrev pub step_at : Served S → List Record → Event → Step S
+  step_at s seen happens = role.step seen s.state s.clock happens
 
-  -- Its record is kept, its messages to itself wait after the others, and its other messages are posted.
-  abbrev pub stepped : Served S → Step S → Served S
-  stepped s step = record s {
-    state = step.state;
-    kept = one_more s.kept step.turned.rec;
-    own = s.own ++ to_itself role.node step.turned.outs;
-    count = (posts s step).count;
-    journal = grown s.journal step.turned.rec;
-  }
-
-  -- an event is handled
-  abbrev pub handles : Served S → Event → Served S
-  handles s happens = stepped s (step_at s happens)
-
-  abbrev pub mails : Served S → Event → List Datagram
-  mails s happens = (posts s (step_at s happens)).datagrams
+  abbrev pub mails : Served S → List Record → Event → List Datagram
+  mails s seen happens = (posts s (step_at s seen happens)).datagrams
 
   -- no event is used at an earlier clock than the one before
   abbrev pub at_reading : Served S → ℕ → Served S
@@ -172,25 +160,24 @@ module _ {S : Type 0} (role : Role S) (boot : Boot) (period : ℕ) where
   event_in s (idle reading) = Some event.Wake
   event_in s (came datagram reading) = delivered (hears role.node s.ears datagram).message
 
-  abbrev pub goes_through : Served S → Option Event → Served S
-  goes_through s None = s
-  goes_through s (Some happens) = handles s happens
+  abbrev pub mails_in : Served S → List Record → Option Event → List Datagram
+  mails_in s seen None = []
+  mails_in s seen (Some happens) = mails s seen happens
 
-  abbrev pub mails_in : Served S → Option Event → List Datagram
-  mails_in s None = []
-  mails_in s (Some happens) = mails s happens
-
-  -- a turn, and what is posted in it
-  abbrev pub takes : Served S → Turn → Served S
-  takes s turn = goes_through (meets s turn) (event_in s turn)
-
-  abbrev pub posts_in : Served S → Turn → List Datagram
-  posts_in s turn = mails_in (meets s turn) (event_in s turn)
+  -- what is posted in a turn
+  abbrev pub posts_in : Served S → List Record → Turn → List Datagram
+  posts_in s seen turn = mails_in (meets s turn) seen (event_in s turn)
 
   -- whether an event ends the node
   abbrev pub ends_event : Option Event → Bool
   ends_event (Some (event.Deliver msg)) = role.stops msg
   ends_event _ = false
+
+  -- The node has come to this event: all before it is done, and nothing of the event. The list has the turn of the event, if it is of one.
+  pub data Meets (to_come : Option (List Datagram)) (s : Served S) : Event → Served S → List Turn → Type 0 where
+    in_turn : (turn : Turn) (happens : Event) → s.own ≡ [] → s.woken ≡ false → Begins to_come (s.due - s.clock) turn → event_in s turn ≡ Some happens
+        → Meets to_come s happens (meets s turn) (turn ∷ [])
+    of_itself : (msg : Msg) (rest : List Msg) → s.own ≡ msg ∷ rest → Meets to_come s (event.Deliver msg) (record s { own = rest }) []
 
   -- ---- records are rewritten
 
@@ -217,21 +204,47 @@ module _ {S : Type 0} (role : Role S) (boot : Boot) (period : ℕ) where
     woken = false;
   }
 
-  -- ---- passes
+-- ---- passes
+
+-- A step is made on what the node sees of its records: these, where the disk's contents are known (`told`); elsewhere bodies are what the
+-- disk gave. Of the records that it keeps there is what is known.
+module _ {S : Type 0} (told : Bool) (role : Role S) (boot : Boot) (period : ℕ) where
+  -- Its record is kept, its messages to itself wait after the others, and its other messages are posted.
+  abbrev pub stepped : Served S → Step S → Served S
+  stepped s step = record s {
+    state = step.state;
+    kept = one_more s.kept (option_map (as_known told) step.turned.rec);
+    own = s.own ++ to_itself role.node step.turned.outs;
+    count = (posts role boot period s step).count;
+    journal = grown s.journal step.turned.rec;
+  }
+
+  -- an event is handled
+  abbrev pub handles : Served S → List Record → Event → Served S
+  handles s seen happens = stepped s (step_at role boot period s seen happens)
+
+  abbrev pub goes_through : Served S → List Record → Option Event → Served S
+  goes_through s seen None = s
+  goes_through s seen (Some happens) = handles s seen happens
+
+  -- a turn
+  abbrev pub takes : Served S → List Record → Turn → Served S
+  takes s seen turn = goes_through (meets role boot period s turn) seen (event_in role boot period s turn)
 
   -- One turn, or one message of the node to itself, and what it posts. Messages to itself come before the next turn, first in
   -- first out, at the clock of the turn that they follow. After a Wake, once none is left, the records are rewritten where they have
   -- grown so much and the journal has room for them; only where it lacks room all stays. Nothing is posted then.
   pub data Passes (to_come : Option (List Datagram)) (s : Served S) : List Turn → List Datagram → Served S → Type 0 where
-    by_turn : (turn : Turn) → s.own ≡ [] → s.woken ≡ false → Begins to_come (s.due - s.clock) turn → ends_event (event_in s turn) ≡ false
-        → Passes to_come s (turn ∷ []) (posts_in s turn) (takes s turn)
-    by_own : (msg : Msg) (rest : List Msg) → s.own ≡ msg ∷ rest
-        → Passes to_come s [] (mails (record s { own = rest }) (event.Deliver msg)) (handles (record s { own = rest }) (event.Deliver msg))
-    by_rewriting : (keep : List KeepBody) → Rewrites s keep → lacks s.journal (rewritten keep s.kept) ≡ None
-        → Passes to_come s [] [] (rewrites_with s keep)
-    by_no_room : (keep : List KeepBody) (need : ℕ) → Rewrites s keep → lacks s.journal (rewritten keep s.kept) ≡ Some need
+    by_turn : (turn : Turn) (seen : List Record) → Sees told s.kept seen → s.own ≡ [] → s.woken ≡ false → Begins to_come (s.due - s.clock) turn
+        → ends_event role boot period (event_in role boot period s turn) ≡ false
+        → Passes to_come s (turn ∷ []) (posts_in role boot period s seen turn) (takes s seen turn)
+    by_own : (msg : Msg) (rest : List Msg) (seen : List Record) → Sees told s.kept seen → s.own ≡ msg ∷ rest
+        → Passes to_come s [] (mails role boot period (record s { own = rest }) seen (event.Deliver msg)) (handles (record s { own = rest }) seen (event.Deliver msg))
+    by_rewriting : (keep : List KeepBody) → Rewrites role boot period s keep → lacks s.journal (rewritten keep s.kept) ≡ None
+        → Passes to_come s [] [] (rewrites_with role boot period s keep)
+    by_no_room : (keep : List KeepBody) (need : ℕ) → Rewrites role boot period s keep → lacks s.journal (rewritten keep s.kept) ≡ Some need
         → Passes to_come s [] [] (record s { woken = false })
-    by_rest : Rests s → Passes to_come s [] [] (record s { woken = false })
+    by_rest : Rests role boot period s → Passes to_come s [] [] (record s { woken = false })
 
   -- The node has come so far from its start by these turns, and posted these datagrams; and what is to come then.
   pub data Comes (to_come : Option (List Datagram)) (start : Served S)
@@ -240,12 +253,6 @@ module _ {S : Type 0} (role : Role S) (boot : Boot) (period : ℕ) where
     passed : (left after : Option (List Datagram)) (turns more : List Turn) (before mailed : List Datagram) (s next : Served S)
         → Comes to_come start left turns before s → Passes left s more mailed next → Takes left after (datagrams_in more)
         → Comes to_come start after (turns ++ more) (before ++ mailed) next
-
-  -- The node has come to this event: all before it is done, and nothing of the event. The list has the turn of the event, if it is of one.
-  pub data Meets (to_come : Option (List Datagram)) (s : Served S) : Event → Served S → List Turn → Type 0 where
-    in_turn : (turn : Turn) (happens : Event) → s.own ≡ [] → s.woken ≡ false → Begins to_come (s.due - s.clock) turn → event_in s turn ≡ Some happens
-        → Meets to_come s happens (meets s turn) (turn ∷ [])
-    of_itself : (msg : Msg) (rest : List Msg) → s.own ≡ msg ∷ rest → Meets to_come s (event.Deliver msg) (record s { own = rest }) []
 
   -- What the node kept at each moment from its start on: at its start, and after each pass.
   module _ (to_come : Option (List Datagram)) (start : Served S) where

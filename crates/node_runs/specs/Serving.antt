@@ -1,5 +1,5 @@
 -- What serving a node does to its link and its clock, and why it ends.
-use Rattle.std.specs.Prelude.{ℕ, ◌≡◌, ◌≤◌, ◌<◌, ◌-◌, ◌⊎◌, true, false, Option, Some, None, List, [], ◌∷◌, ◌++◌, length, take}
+use Rattle.std.specs.Prelude.{ℕ, ◌≡◌, ◌≤◌, ◌<◌, ◌-◌, ◌⊎◌, Bool, true, false, Option, Some, None, List, [], ◌∷◌, ◌++◌, length, take}
 use Rattle.xt_base.specs.declared.ids.Boot.{Boot}
 use Rattle.xt_messages.specs.declared.event.Event.{Event}
 use Rattle.xt_messages.specs.declared.record.KeepBody.{KeepBody}
@@ -7,6 +7,7 @@ use Rattle.xt_messages.specs.declared.record.Record.{Record}
 use Rattle.xt_messages.specs.declared.status.Status.{Status}
 use Rattle.xt_messages.specs.declared.status.Status.TheVariants as status
 use Rattle.xt_base.specs.Faults.{Rose, counted}
+use Rattle.replica_records.specs.Known.{Sees}
 use Rattle.world_spec.specs.World.{Deed, puts, rewrites}
 use Rattle.node_links.specs.declared.link.Datagram.{Datagram}
 use Rattle.node_links.specs.Streams.{Takes}
@@ -39,21 +40,24 @@ IsOver limit needed need most = (limit < needed) × (need ≡ counted needed) ×
 abbrev pub IsUntouched : Undone → Type 0
 IsUntouched undone = (undone.unread ≡ []) × (undone.met ≡ None) × (undone.more ≡ [])
 
-module _ {S : Type 0} (role : Role S) (boot : Boot) (period : ℕ) where
-  -- the node is in an event, of a turn or of a message to itself, and has done nothing of it
+module _ {S : Type 0} (told : Bool) (role : Role S) (boot : Boot) (period : ℕ) where
+  -- The node is in an event, of a turn or of a message to itself, and has done nothing of it. Its step is made on what it sees of its
+  -- records: these, where the disk's contents are known (`told`); elsewhere bodies are what the disk gave.
   pub record IsIn (to_come : Option (List Datagram)) (s : Served S) : Type 0 where
     pub happens : Event
     pub met : Served S
     pub turn : List Turn
     pub is_met : Meets role boot period to_come s happens met turn
+    pub seen : List Record
+    pub sees : Sees told met.kept seen
 
   -- the record of the event, and its datagrams where so many of its messages were posted
   abbrev pub record_in : (to_come : Option (List Datagram)) (s : Served S) → IsIn to_come s → Option Record
-  record_in to_come s it = (step_at role boot period it.met it.happens).turned.rec
+  record_in to_come s it = (step_at role boot period it.met it.seen it.happens).turned.rec
 
   abbrev pub front_in : (to_come : Option (List Datagram)) (s : Served S) → IsIn to_come s → ℕ → List Datagram
   front_in to_come s it count =
-      (posted role.node boot it.met.ears.book (none_posted it.met.count) (take count (step_at role boot period it.met it.happens).turned.outs)).datagrams
+      (posted role.node boot it.met.ears.book (none_posted it.met.count) (take count (step_at role boot period it.met it.seen it.happens).turned.outs)).datagrams
 
   -- a turn ended: no message to itself is left, and the records needn't be looked at
   abbrev pub IsBetween : Served S → Type 0
@@ -113,7 +117,7 @@ module _ {S : Type 0} (role : Role S) (boot : Boot) (period : ℕ) where
     pub end : Served S
     pub to_come : Option (List Datagram)
     pub undone : Undone
-    pub comes : Comes role boot period given_before start to_come turns posts end
+    pub comes : Comes told role boot period given_before start to_come turns posts end
     -- the datagrams of the turns, and of the last one of which no turn came
     pub received : Takes given_before given_after (datagrams_in turns ++ (datagrams_in undone.turn ++ undone.unread))
     -- one reading a turn

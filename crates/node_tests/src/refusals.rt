@@ -56,11 +56,11 @@ fn a_journal_is_full(rt: HostRuntime) {
 
 /// Whether the payload of a journal is reported as no record.
 fn is_bad<D: Disk>(alloc: Global, disk: D) -> bool {
-    let Ok((journal, payloads)) = Journal::load(alloc, disk, LIMIT) else {
+    let Ok((journal, extents)) = Journal::load(alloc, disk, LIMIT) else {
         return false;
     };
     matches!(
-        Store::load(alloc, journal, payloads.as_slice()),
+        Store::load(alloc, journal, extents.as_slice()),
         Err(StoreErr::BadRecord { index: 0, .. })
     )
 }

@@ -1,14 +1,14 @@
 -- payloads that are read as records, one after the other
-use Rattle.std.proofs.Common.{◌≡◌, ℕ, ◌+◌, ◌<◌, suc, List, [], ◌∷◌, ◌++◌, length, take, drop, get_or, ap, ◌∙◌, sym, arith, drop-cons, take-append-drop}
+use Rattle.std.proofs.Common.{◌≡◌, ℕ, List, [], ◌∷◌, ◌++◌, length, ap, ◌∙◌, sym, arith}
 use Rattle.std.specs.List.{fold}
-use Rattle.std.proofs.lemmas.List.{map-append, take_more, take_all}
+use Rattle.std.proofs.lemmas.List.{map-append}
 use Rattle.std.proofs.lemmas.List.Elements.{All-push}
 use Rattle.xt_messages.specs.Limits.{FitsRecord}
 use Rattle.xt_messages.specs.declared.record.Folded.{Folded}
 use Rattle.xt_messages.specs.declared.record.Record.{Record}
 use Rattle.xt_protocol.specs.Folds.{folded_after, nothing_kept, fold_of, IsInPlace, AreInPlace}
 use Rattle.replica_records.specs.RecordText.{record_text}
-use Rattle.xt_journal.specs.declared.placed.Placed.{Placed}
+use Rattle.xt_journal.specs.Placed.{Placed}
 use Rattle.xt_journal.specs.Reading.{payloads_of}
 use Rattle.object_store.specs.Texts.{texts_of, AreRecords, IsFirstBad}
 
@@ -31,36 +31,22 @@ are-push records rec are fits is = record {
 pub none_are : AreRecords []
 none_are = record { fit = λ k d less. absurd (omega arith); placed = tt }
 
-pub texts_more : (records : List Record) (rec : Record) (payloads : List Placed) (i : ℕ) (x : Placed) → i < length payloads → x ≡ get_or payloads i x
-    → x.bytes ≡ record_text rec → texts_of records ≡ payloads_of (take i payloads) → texts_of (records ++ rec ∷ []) ≡ payloads_of (take (i + 1) payloads)
-texts_more records rec payloads i x inside is text before =
-    texts-push records rec
-    ∙ ap (λ l. l ++ record_text rec ∷ []) before
-    ∙ ap (λ b. payloads_of (take i payloads) ++ b ∷ []) (sym text)
-    ∙ ap (λ p. payloads_of (take i payloads) ++ p.bytes ∷ []) is
-    ∙ sym (map-append (λ p. p.bytes) (take i payloads) (get_or payloads i x ∷ []))
-    ∙ ap payloads_of (sym (take_more payloads i x inside))
-
-pub texts_whole : (records : List Record) (payloads : List Placed) (i : ℕ) → length payloads ≡ i → texts_of records ≡ payloads_of (take i payloads)
-    → texts_of records ≡ payloads_of payloads
-texts_whole records payloads i whole before = before ∙ ap payloads_of (take_all i payloads (omega arith))
+pub texts_more : (records : List Record) (rec : Record) (placed : List Placed) (p : Placed) → p.bytes ≡ record_text rec → texts_of records ≡ payloads_of placed
+    → texts_of (records ++ rec ∷ []) ≡ payloads_of (placed ++ p ∷ [])
+texts_more records rec placed p text before =
+    texts-push records rec ∙ ap (λ l. l ++ record_text rec ∷ []) before ∙ ap (λ b. payloads_of placed ++ b ∷ []) (sym text)
+    ∙ sym (map-append (λ q. q.bytes) placed (p ∷ []))
 
 -- the first payload that is no record in its place
-pub first_bad : (records : List Record) (count : ℕ) (payloads : List Placed) (i : ℕ) (x : Placed) → count ≡ length records → i < length payloads → x ≡ get_or payloads i x
-    → texts_of records ≡ payloads_of (take i payloads) → AreRecords records
-    → ((rec : Record) → FitsRecord rec → x.bytes ≡ record_text rec → IsInPlace (fold_of records) rec → ⊥)
-    → IsFirstBad (payloads_of payloads) count
-first_bad records count payloads i x all inside is before are bad = record {
+pub first_bad : (records : List Record) (count : ℕ) (placed : List Placed) (p : Placed) (rest : List Placed) → count ≡ length records → texts_of records ≡ payloads_of placed
+    → AreRecords records → ((rec : Record) → FitsRecord rec → p.bytes ≡ record_text rec → IsInPlace (fold_of records) rec → ⊥)
+    → IsFirstBad (payloads_of (placed ++ p ∷ rest)) count
+first_bad records count placed p rest all before are bad = record {
   before = records;
   are = are;
-  payload = x.bytes;
-  rest = payloads_of (drop (suc i) payloads);
-  split =
-      ap payloads_of (sym (take-append-drop i payloads))
-      ∙ map-append (λ p. p.bytes) (take i payloads) (drop i payloads)
-      ∙ ap (λ l. payloads_of (take i payloads) ++ payloads_of l) (drop-cons payloads i x inside)
-      ∙ ap (λ p. payloads_of (take i payloads) ++ p.bytes ∷ payloads_of (drop (suc i) payloads)) (sym is)
-      ∙ ap (λ l. l ++ x.bytes ∷ payloads_of (drop (suc i) payloads)) (sym before);
+  payload = p.bytes;
+  rest = payloads_of rest;
+  split = map-append (λ q. q.bytes) placed (p ∷ rest) ∙ ap (λ l. l ++ p.bytes ∷ payloads_of rest) (sym before);
   place = all;
   bad = bad;
 }

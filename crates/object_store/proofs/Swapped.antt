@@ -1,5 +1,5 @@
 -- a journal's new payloads are the texts of records
-use Rattle.std.proofs.Common.{◌≡◌, ◌-◌, ℕ, inl, refl, Option, Some, List, sym, ◌∙◌, ap, subst, Err}
+use Rattle.std.proofs.Common.{◌≡◌, ◌-◌, ℕ, Bool, inl, refl, Option, Some, List, sym, ◌∙◌, ap, subst, Err}
 use Rattle.std.specs.Prelude.{IsTrue}
 use Rattle.disk_model.specs.declared.disk.Disk.{Ghosts}
 use Rattle.disk_model.specs.Disk.{Kept, IsImage, LeavesOnly}
@@ -9,14 +9,13 @@ use Rattle.journal_areas.specs.declared.site.Area.{Area}
 use Rattle.journal_areas.specs.declared.superblock.Superblock.{Superblock}
 use Rattle.journal_areas.specs.Sites.{area_size, moved, need_for, new_area_of}
 use Rattle.journal_moves.specs.Answers.{full_need}
-use Rattle.journal_moves.specs.Moves.{IsEither}
+use Rattle.journal_moves.specs.Moves.{IsEither, IsMoveStopped, move_calls}
 use Rattle.xt_journal.specs.Format.{KeepsJournal, StandsFor}
 use Rattle.xt_journal.proofs.Steps.{each_stands}
 use Rattle.object_store.specs.declared.store.Store.{Store}
 use Rattle.object_store.specs.declared.errors.AppendErr.TheVariants as append
-use Rattle.xt_journal.specs.Access.{limit_of}
-use Rattle.object_store.specs.Access.{disk_of, journal_of, records_of}
-use Rattle.object_store.specs.Swaps.{Swaps, swap_need}
+use Rattle.object_store.specs.Access.{disk_of, records_of}
+use Rattle.object_store.specs.Swaps.{Swaps}
 use Rattle.object_store.specs.Texts.{texts_of}
 use Rattle.object_store.proofs.Outcomes.{goes_on_itself}
 
@@ -44,6 +43,12 @@ module _ (payloads texts : List (List ℕ)) (is : payloads ≡ texts) where
     pub need_as : (limit : ℕ) (need : Option ℕ) → full_need super end (area_size payloads) limit ≡ need → full_need super end (area_size texts) limit ≡ need
     need_as limit need fact = subst (λ (ps : List (List ℕ)). full_need super end (area_size ps) limit ≡ need) is fact
 
+    pub stopped_as : (sizes lengths : List ℕ) → sizes ≡ lengths → (fails : ℕ → ℕ → Bool) (kept : Kept) (old : List (List ℕ))
+        → IsMoveStopped (move_calls super end sizes) fails kept old payloads → IsMoveStopped (move_calls super end lengths) fails kept old texts
+    stopped_as sizes lengths same fails kept old fact =
+        subst (λ (ns : List ℕ). IsMoveStopped (move_calls super end ns) fails kept old texts) same
+        (subst (λ (ps : List (List ℕ)). IsMoveStopped (move_calls super end sizes) fails kept old ps) is fact)
+
 -- the disk keeps the texts of these records
 pub keeps_as : (kept : Kept) (payloads : List (List ℕ)) (made records : List Record) → payloads ≡ texts_of made → records ≡ made → KeepsJournal kept payloads → KeepsJournal kept (texts_of records)
 keeps_as kept payloads made records is same fact = subst (λ (ps : List (List ℕ)). KeepsJournal kept ps) (is ∙ ap texts_of (sym same)) fact
@@ -59,18 +64,6 @@ pub not_tried : {D : Type 0} {g : Ghosts D} (old : Store D g) (made : List Recor
     → Swaps old made (Err (append.OutOfMemory old))
 not_tried {g = g} old made only = record {
   end = record { records = refl; kept = refl; place = refl; limit = refl; superblock = refl; no_call = λ told. goes_on_itself (g.fails (disk_of old)) };
-  any_moment = λ told.
-      begun g.moment g.left_since (disk_of old) (IsEither (texts_of (records_of old)) (texts_of made))
-      (λ image left. rests_either (g.kept (disk_of old)) (texts_of (records_of old)) (texts_of made) image (old.keeps told) (only image told left));
-  faults = refl;
-}
-
--- the new area has no room, and that is found before anything is touched
-pub no_room : {D : Type 0} {g : Ghosts D} (old : Store D g) (made : List Record) (need limit : ℕ) → swap_need old made ≡ Some need → limit ≡ limit_of (journal_of old)
-    → ((image : List ℕ) → IsTrue g.is_told → g.left_since (disk_of old) (g.moment (disk_of old)) image → IsImage (g.kept (disk_of old)) image)
-    → Swaps old made (Err (append.Full old need limit))
-no_room {g = g} old made need limit needed is only = record {
-  end = record { needed = needed; records = refl; disk = refl; place = refl; limit = refl; superblock = refl; limit_is = is };
   any_moment = λ told.
       begun g.moment g.left_since (disk_of old) (IsEither (texts_of (records_of old)) (texts_of made))
       (λ image left. rests_either (g.kept (disk_of old)) (texts_of (records_of old)) (texts_of made) image (old.keeps told) (only image told left));

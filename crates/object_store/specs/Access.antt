@@ -6,7 +6,8 @@ use Rattle.journal_areas.specs.declared.site.Area.{Area}
 use Rattle.journal_areas.specs.Sites as sites
 use Rattle.xt_journal.specs.declared.journal.Journal.{Journal}
 use Rattle.xt_journal.specs.Access as journal
-use Rattle.replica_records.specs.Logs.{records_in}
+use Rattle.object_store.specs.declared.log.StoreLog.{StoreLog}
+use Rattle.object_store.specs.Logs.{records_in}
 use Rattle.object_store.specs.declared.store.Store.{Store}
 
 module _ {D : Type 0} {g : Ghosts D} where
@@ -16,9 +17,14 @@ module _ {D : Type 0} {g : Ghosts D} where
   abbrev pub disk_of : Store D g → D
   disk_of store = journal.disk_of store.journal
 
-  -- the records that it keeps, in order
+  -- the records as they are in memory
+  abbrev pub log_of : Store D g → StoreLog
+  log_of store = store.log
+
+  -- The records that it keeps, in order, as contracts know them: with the bodies that are in their places on its disk, or zeros for them
+  -- where contracts don't know what the disk keeps.
   abbrev pub records_of : Store D g → List Record
-  records_of store = records_in store.log
+  records_of store = records_in g.is_told (g.kept (disk_of store)).read store.log
 
   -- the area of its journal that counts
   abbrev pub area_of : Store D g → Area

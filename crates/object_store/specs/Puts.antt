@@ -8,6 +8,7 @@ use Rattle.xt_journal.specs.Access.{place_of, limit_of, superblock_of}
 use Rattle.xt_journal.specs.Append.{IsStopped, IsWithOrWithout}
 use Rattle.journal_records.specs.Calls.{AllSucceed, GoesOn}
 use Rattle.xt_journal.specs.Format.{StandsFor}
+use Rattle.replica_records.specs.Known.{as_known}
 use Rattle.replica_records.specs.RecordText.{record_text}
 use Rattle.object_store.specs.declared.store.Store.{Store}
 use Rattle.object_store.specs.declared.errors.AppendErr.{AppendErr}
@@ -20,10 +21,10 @@ use Rattle.object_store.specs.Texts.{texts_of}
 abbrev pub needed_for : {D : Type 0} {g : Ghosts D} → Store D g → Record → ℕ
 needed_for old rec = place_of (journal_of old) + (6 + length (record_text rec))
 
--- The record comes after the others, in memory and on the disk, and each crash leaves it from now on. The journal's superblock is as it was.
+-- What is known of the record comes after the others, the record itself is on the disk, and each crash leaves it from now on. The journal's superblock is as it was.
 -- All four calls succeeded.
 pub record IsPut {D : Type 0} {g : Ghosts D} (old : Store D g) (rec : Record) (new : Store D g) : Type 0 where
-  pub records : records_of new ≡ records_of old ++ rec ∷ []
+  pub records : records_of new ≡ records_of old ++ as_known g.is_told rec ∷ []
   pub acknowledged : IsTrue g.is_told → (image : List ℕ) → IsImage (g.kept (disk_of new)) image → StandsFor image (texts_of (records_of old ++ rec ∷ []))
   pub place : place_of (journal_of new) ≡ place_of (journal_of old) + (5 + length (record_text rec))
   pub limit : limit_of (journal_of new) ≡ limit_of (journal_of old)

@@ -1,14 +1,15 @@
 -- what swapping a store's records for others does
-use Rattle.std.specs.Prelude.{ℕ, ◌≡◌, ◌-◌, Option, None, Some, List, is_some, IsTrue, Result, Ok, Err}
+use Rattle.std.specs.Prelude.{ℕ, ◌≡◌, ◌-◌, Option, None, Some, List, is_some, IsTrue, Result, Ok, Err, length, map}
 use Rattle.disk_model.specs.declared.disk.Disk.{Ghosts}
 use Rattle.disk_model.specs.Disk.{IsImage, LeavesOnly}
 use Rattle.xt_base.specs.Faults.{fault_count_after}
 use Rattle.xt_messages.specs.declared.record.Record.{Record}
 use Rattle.journal_areas.specs.Sites.{area_size, moved, need_for, new_area_of}
 use Rattle.journal_moves.specs.Answers.{full_need}
-use Rattle.journal_moves.specs.Moves.{FailsWithin, IsEither, MakesCalls, move_calls}
+use Rattle.journal_moves.specs.Moves.{FailsWithin, IsEither, IsMoveStopped, MakesCalls, move_calls}
 use Rattle.xt_journal.specs.Access.{place_of, limit_of, superblock_of}
 use Rattle.xt_journal.specs.Format.{StandsFor}
+use Rattle.replica_records.specs.Known.{known_of}
 use Rattle.object_store.specs.declared.store.Store.{Store}
 use Rattle.object_store.specs.declared.errors.AppendErr.{AppendErr}
 use Rattle.object_store.specs.declared.errors.AppendErr.TheVariants as append
@@ -27,25 +28,26 @@ module _ {D : Type 0} {g : Ghosts D} where
   swap_need old records = full_need (superblock_of (journal_of old)) (place_of (journal_of old)) (size_of records) (limit_of (journal_of old))
 
   -- how many writes and syncs it takes
-  abbrev pub swap_calls : Store D g → ℕ
-  swap_calls old = move_calls (superblock_of (journal_of old)) (place_of (journal_of old))
+  abbrev pub swap_calls : Store D g → List Record → ℕ
+  swap_calls old records = move_calls (superblock_of (journal_of old)) (place_of (journal_of old)) (map length (texts_of records))
 
--- These records are in place of the old ones, in memory and on the disk, where they stand in a new area, and each crash leaves them from now
--- on. No call failed.
+-- What is known of these records is in place of the old ones; they stand on the disk in a new area, and each crash leaves them from now on. No
+-- call failed.
 pub record IsSwapped {D : Type 0} {g : Ghosts D} (old : Store D g) (made : List Record) (new : Store D g) : Type 0 where
-  pub records : records_of new ≡ made
+  pub records : records_of new ≡ known_of g.is_told made
   pub acknowledged : IsTrue g.is_told → (image : List ℕ) → IsImage (g.kept (disk_of new)) image → StandsFor image (texts_of made)
   pub area : area_of new ≡ new_area_of (superblock_of (journal_of old)) (place_of (journal_of old)) (size_of made)
   pub superblock : superblock_of (journal_of new) ≡ Some (moved (superblock_of (journal_of old)) (place_of (journal_of old)) (size_of made))
   pub place : place_of (journal_of new) ≡ need_for (superblock_of (journal_of old)) (place_of (journal_of old)) (size_of made) - 1
   pub limit : limit_of (journal_of new) ≡ limit_of (journal_of old)
-  pub calls : IsTrue g.is_told → MakesCalls (swap_calls old) (g.fails (disk_of old)) (g.fails (disk_of new))
+  pub calls : IsTrue g.is_told → MakesCalls (swap_calls old made) (g.fails (disk_of old)) (g.fails (disk_of new))
   pub room : swap_need old made ≡ None
 
--- One of the calls failed. A crash leaves the old records or these.
+-- One of the calls failed. A crash leaves the old records or these, and which call it was decides which.
 pub record IsSwapBroken {D : Type 0} {g : Ghosts D} (old : Store D g) (made : List Record) (count : ℕ) (disk : D) : Type 0 where
   pub left : IsTrue g.is_told → (image : List ℕ) → IsImage (g.kept disk) image → IsEither (texts_of (records_of old)) (texts_of made) image
-  pub failed : IsTrue g.is_told → FailsWithin (swap_calls old) (g.fails (disk_of old))
+  pub failed : IsTrue g.is_told → FailsWithin (swap_calls old made) (g.fails (disk_of old))
+  pub stopped : IsTrue g.is_told → IsMoveStopped (swap_calls old made) (g.fails (disk_of old)) (g.kept disk) (texts_of (records_of old)) (texts_of made)
   pub fault : count ≡ g.fault_count disk
   pub room : swap_need old made ≡ None
 

@@ -2,11 +2,14 @@ use crate::store::Store;
 use disk_model::Disk;
 use xt_journal::Journal;
 
-/// Why a journal isn't loaded. It is returned as it was.
+/// Why a journal's records aren't loaded.
 #[derive(Drop)]
 pub enum StoreErr<D: Disk> {
-    /// The payload at this index, from 0, isn't a record in its place, and those before it are.
+    /// The payload at this index, from 0, isn't a record in its place, and those before it are. The journal is returned as it was.
     BadRecord { index: usize, journal: Journal<D> },
+    /// A payload couldn't be read; this is the disk's count of faults, with that one. The journal is closed.
+    Broken { count: u64, disk: D },
+    /// The journal is returned as it was.
     OutOfMemory { journal: Journal<D> },
 }
 

@@ -1,31 +1,54 @@
 //! What can fail before a record is put.
 ghost use Rattle.std.specs.Prelude.{◌≡◌, ◌≢◌, ◌<◌, ◌≤◌, ◌^◌, IfOk, OnOk, length, slice_index};
 ghost use Rattle.xt_messages.specs.Limits.{FitsRecord};
-ghost use Rattle.replica_records.specs.Logs.{records_in, HasRoom};
 ghost use Rattle.replica_records.specs.RecordText.{record_text};
 ghost use Rattle.xt_journal.specs.Format.{superblock_kind};
+ghost use Rattle.object_store.specs.Bare.{bare};
+ghost use Rattle.object_store.specs.Logs.{HasRoom, bare_in, places_in};
+ghost use Rattle.object_store.specs.Places.{place_of};
 
-use replica_records::{RecordLog, record_bytes};
+use crate::bare::copy_with;
+use crate::log::StoreLog;
+use crate::place::BodyPlace;
+use replica_records::record_bytes;
 use std::alloc::Global;
-use xt_base::{Copies, Octets, OutOfMemory};
+use xt_base::{Octets, OutOfMemory};
 use xt_messages::Record;
 
-/// Makes room for a record, and gives its bytes and another one like it. No record's bytes begin as a superblock's do.
+/// A record that is to be put.
+#[derive(Drop)]
+pub struct Prepared {
+    /// Its payload.
+    pub bytes: Octets,
+    /// A copy of it without its body.
+    pub bare: Record,
+    pub place: BodyPlace,
+}
+
+/// Makes room for a record, and what is to be put where the gate of its payload is at this place. No record's bytes begin as a
+/// superblock's do.
 #[tactic(auto, using(crate::proofs::RecordKinds::no_superblock))]
-pub fn prepared(
+pub fn prepare(
     alloc: Global,
-    log: &mut RecordLog,
+    log: &mut StoreLog,
     rec: &Record,
-) -> Result<(Octets, Record), OutOfMemory>
+    gate: u64,
+) -> Result<Prepared, OutOfMemory>
     requires { FitsRecord rec.now }
-    ensures bytes { IfOk result (λ made. made.0 ≡ record_text rec.now) }
-    ensures some { IfOk result (λ made. 1 ≤ length made.0) }
-    ensures kind { IfOk result (λ made. slice_index made.0 0 ≢ superblock_kind) }
-    ensures fits { IfOk result (λ made. length made.0 < 2 ^ 32) }
-    ensures same { IfOk result (λ made. made.1 ≡ rec.now) }
-    ensures room { OnOk result (HasRoom log.new rec.now) }
-    ensures records { records_in log.new ≡ records_in log.old }
+    ensures bytes { IfOk result (λ made. made.bytes ≡ record_text rec.now) }
+    ensures some { IfOk result (λ made. 1 ≤ length made.bytes) }
+    ensures kind { IfOk result (λ made. slice_index made.bytes 0 ≢ superblock_kind) }
+    ensures fits { IfOk result (λ made. length made.bytes < 2 ^ 32) }
+    ensures bare { IfOk result (λ made. made.bare ≡ bare rec.now) }
+    ensures place { IfOk result (λ made. made.place ≡
+        place_of (record { gate = gate; bytes = record_text rec.now }) rec.now) }
+    ensures room { IfOk result (λ made. HasRoom log.new made.bare) }
+    ensures records { bare_in log.new ≡ bare_in log.old }
+    ensures places { places_in log.new ≡ places_in log.old }
 {
-    log.make_room(rec)?;
-    Ok((record_bytes(alloc, rec)?, rec.copy(alloc)?))
+    let bytes = record_bytes(alloc, rec)?;
+    let bare = copy_with(alloc, rec, Octets::new(alloc))?;
+    log.make_room(&bare)?;
+    let place = BodyPlace::of(rec, gate, bytes.as_slice().len());
+    Ok(Prepared { bytes, bare, place })
 }

@@ -1,57 +1,72 @@
 ghost use Rattle.std.specs.Prelude.{IsTrue};
 ghost use Rattle.xt_journal.specs.Format.{KeepsJournal};
-ghost use Rattle.xt_journal.specs.Access.{disk_of};
-ghost use Rattle.replica_records.specs.Logs.{records_in};
-ghost use Rattle.object_store.specs.Texts.{texts_of, AreRecords};
+ghost use Rattle.xt_journal.specs.Access.{disk_of, superblock_of};
 ghost use Rattle.object_store.specs.KeptJournals.{told_keeps_prop};
+ghost use Rattle.object_store.specs.Laid.{IsLaid, told_laid_prop};
+ghost use Rattle.object_store.specs.Logs.{records_in};
+ghost use Rattle.object_store.specs.Texts.{texts_of, AreRecords};
 
 use crate::errors::{AppendErr, StoreErr};
 use crate::loading::{Trouble, read_all};
-use crate::preparing::prepared;
+use crate::log::StoreLog;
+use crate::preparing::prepare;
 use disk_model::Disk;
 use journal_areas::Area;
-use replica_records::RecordLog;
+use journal_moves::Extent;
 use std::alloc::Global;
-use xt_journal::{Journal, Placed};
+use xt_journal::Journal;
 use xt_messages::Record;
 
-/// The records of a node, each of them on a disk and in memory.
+/// The records of a node, each of them on a disk, and in memory without its body.
 #[derive(Drop)]
 pub struct Store<D: Disk> {
     pub(crate) journal: Journal<D>,
-    pub(crate) log: RecordLog,
+    pub(crate) log: StoreLog,
     /// The disk keeps the records' bytes.
-    pub ghost keeps: { IsTrue D.is_told →
-        KeepsJournal (D.kept (disk_of journal)) (texts_of (records_in log)) } by { told_keeps_prop D.is_told
-            (D.kept (disk_of journal)) (texts_of (records_in log)) },
+    pub ghost keeps: { IsTrue D.is_told → KeepsJournal (D.kept (disk_of journal))
+        (texts_of (records_in D.is_told (D.kept (disk_of journal)).read log)) } by { told_keeps_prop D.is_told (D.kept (disk_of journal))
+            (texts_of (records_in D.is_told (D.kept (disk_of journal)).read log)) },
+    /// The places in the log are those of the bodies.
+    pub ghost laid: { IsTrue D.is_told → IsLaid (superblock_of journal)
+        (records_in D.is_told (D.kept (disk_of journal)).read log) log } by { told_laid_prop D.is_told (superblock_of journal)
+            (records_in D.is_told (D.kept (disk_of journal)).read log) log },
     /// Each record is within its limits, and in its place.
-    pub ghost sound: { ∥ AreRecords (records_in log) ∥₁ },
+    pub ghost sound: { ∥ AreRecords (records_in D.is_told (D.kept (disk_of journal)).read log) ∥₁ },
 }
 
 impl<D: Disk> Store<D> {
     ghost use Rattle.std.specs.Prelude.{◌≡◌};
     ghost use Rattle.xt_messages.specs.Limits.{FitsRecord};
     ghost use Rattle.xt_protocol.specs.Folds.{fold_of, IsInPlace};
-    ghost use Rattle.xt_journal.specs.Reading.{payloads_of};
+    ghost use Rattle.xt_journal.specs.Access.{place_of};
+    ghost use Rattle.xt_journal.specs.Placed.{AreWithin};
     ghost use Rattle.object_store.specs.Access as store;
-    ghost use Rattle.object_store.specs.Loading.{IsLoadOf};
+    ghost use Rattle.object_store.specs.Bare.{bare_of};
+    ghost use Rattle.object_store.specs.Loading.{ArePlaced, IsLoadFrom};
     ghost use Rattle.object_store.specs.Puts.{Puts};
 
-    /// The store of the records that these payloads of the journal are. They are those that its loading gave.
+    /// The store of the records that the journal's payloads are. Their extents are those that its loading gave. The payloads are read one
+    /// at a time.
     ///
-    /// `BadRecord` comes exactly where one isn't a record in its place, and tells the first such one.
+    /// `BadRecord` comes exactly where one isn't a record in its place, and tells the first such one. `Broken` can't come where contracts
+    /// know what the disk keeps.
     pub fn load(
         alloc: Global,
         journal: Journal<D>,
-        payloads: &[Placed],
+        extents: &[Extent],
     ) -> Result<Store<D>, StoreErr<D>>
-        requires { IsTrue D.is_told →
-            KeepsJournal (D.kept (disk_of journal)) (payloads_of payloads.now) }
-        ensures { IsLoadOf journal (payloads_of payloads.now) result }
+        requires placed { IsTrue D.is_told → ArePlaced journal extents.now }
+        requires within { AreWithin (place_of journal) extents.now }
+        ensures { IsLoadFrom journal extents.now result }
     {
-        match read_all(alloc, payloads) {
+        match read_all(alloc, &journal, extents) {
             Ok(log) => Ok(Store { journal, log }),
             Err(Trouble::BadRecord(index)) => Err(StoreErr::BadRecord { index, journal }),
+            Err(Trouble::DiskFault) => {
+                let mut disk = journal.close();
+                let count = disk.count_fault();
+                Err(StoreErr::Broken { count, disk })
+            }
             Err(Trouble::OutOfMemory) => Err(StoreErr::OutOfMemory { journal }),
         }
     }
@@ -66,13 +81,13 @@ impl<D: Disk> Store<D> {
         ensures { Puts self rec.now result }
     {
         let Store { journal, mut log } = self;
-        let Ok((bytes, kept)) = prepared(alloc, &mut log, rec) else {
+        let Ok(made) = prepare(alloc, &mut log, rec, journal.end()) else {
             let store = Store { journal, log };
             return Err(AppendErr::OutOfMemory { store });
         };
-        match journal.append(alloc, bytes.as_slice()) {
+        match journal.append(alloc, made.bytes.as_slice()) {
             Ok(journal) => {
-                log.put(kept);
+                log.put(made.bare, made.place);
                 Ok(Store { journal, log })
             }
             Err(xt_journal::AppendErr::Broken { count, disk }) => Err(AppendErr::Broken {
@@ -96,16 +111,16 @@ impl<D: Disk> Store<D> {
         }
     }
 
-    /// The records, in the order in which they were put.
+    /// The records without their bodies, in the order in which they were put.
     pub fn records(&self) -> &[Record]
-        ensures { result.now ≡ store.records_of self.now }
+        ensures { result.now ≡ bare_of (store.records_of self.now) }
     {
         self.log.as_slice()
     }
 
-    /// The records, each with the place of the body that it puts.
-    pub fn log(&self) -> &RecordLog
-        ensures { records_in result.now ≡ store.records_of self.now }
+    /// The records as they are in memory, with the places of their bodies.
+    pub fn log(&self) -> &StoreLog
+        ensures { result.now ≡ store.log_of self.now }
     {
         &self.log
     }

@@ -1,86 +1,86 @@
 //! Other records in place of all that a store has.
-ghost use Rattle.std.specs.Prelude.{◌≡◌, IfOk};
+ghost use Rattle.std.specs.Prelude.{IfOk};
 ghost use Rattle.std.specs.List.{All};
-ghost use Rattle.xt_messages.specs.Limits.{FitsRecord};
-ghost use Rattle.replica_records.specs.Logs.{records_in};
-ghost use Rattle.object_store.specs.Texts.{texts_of};
+ghost use Rattle.object_store.specs.Swapping.{FitsCopied, IsMadeOf};
 
+use crate::copied::Copied;
 use crate::errors::AppendErr;
+use crate::log::StoreLog;
+use crate::place::BodyPlace;
 use crate::store::Store;
 use disk_model::Disk;
-use replica_records::{RecordLog, record_bytes};
+use journal_moves::{Extent, Gathered};
+use replica_records::record_front;
 use std::alloc::Global;
-use xt_base::{Octets, OutOfMemory};
-use xt_messages::Record;
-
-/// The bytes of each of these records.
-fn payloads_of(alloc: Global, records: &[Record]) -> Result<Vec<Octets>, OutOfMemory>
-    requires { All FitsRecord records.now }
-    ensures { IfOk result (λ made. made.items ≡ texts_of records.now) }
-{
-    let mut made = Vec::with_capacity(alloc, records.len())?;
-    for rec in records {
-        made.push(record_bytes(alloc, rec)?)?;
-    }
-    Ok(made)
-}
-
-/// These records with the places of their bodies.
-fn log_of(alloc: Global, records: Vec<Record>) -> Result<RecordLog, OutOfMemory>
-    ensures { IfOk result (λ log. records_in log ≡ records.items) }
-{
-    let mut log = RecordLog::new(alloc);
-    for rec in records {
-        log.push(rec)?;
-    }
-    Ok(log)
-}
+use xt_base::OutOfMemory;
 
 /// What a swap makes in memory before it begins.
 #[derive(Drop)]
-struct Made {
-    payloads: Vec<Octets>,
-    log: RecordLog,
+pub struct Made {
+    /// The bytes of each record, but for its body: that is where it was so far.
+    payloads: Vec<Gathered>,
+    /// The records, with the places of their bodies from the start of the area.
+    log: StoreLog,
 }
 
-/// All that needs memory, before the journal is asked.
-fn prepared(alloc: Global, records: Vec<Record>) -> Result<Made, OutOfMemory>
-    requires { All FitsRecord records.items }
-    ensures { IfOk result (λ made. (made.payloads.items ≡ texts_of records.items)
-        × (records_in made.log ≡ records.items)) }
+/// All that needs memory for each record, before the journal is asked. No body is read.
+fn prepared(alloc: Global, records: Vec<Copied>) -> Result<Made, OutOfMemory>
+    requires { All FitsCopied records.items }
+    ensures { IfOk result (IsMadeOf records.items) }
 {
-    let payloads = payloads_of(alloc, records.as_slice())?;
-    let log = log_of(alloc, records)?;
+    let mut payloads = Vec::with_capacity(alloc, records.len())?;
+    let mut log = StoreLog::new(alloc);
+    let mut gate: u64 = 0;
+    for copied in records {
+        let len = copied.body.len;
+        let front = record_front(alloc, &copied.bare, len)?;
+        let before = 5 + front.as_slice().len() as u64;
+        let place = BodyPlace {
+            at: gate.saturating_add(before),
+            len,
+        };
+        let rest = Extent {
+            at: copied.body.at,
+            len,
+        };
+        log.push(copied.bare, place)?;
+        payloads.push(Gathered { front, rest })?;
+        gate = gate.saturating_add(before + len as u64);
+    }
     Ok(Made { payloads, log })
 }
 
 impl<D: Disk> Store<D> {
-    ghost use Rattle.std.specs.Prelude.{List};
-    ghost use Rattle.xt_base.specs.Faults.{counted};
-    ghost use Rattle.xt_journal.specs.Access.{limit_of};
-    ghost use Rattle.xt_messages.specs.declared.record.Record.{Record};
-    ghost use Rattle.object_store.specs.Access.{journal_of};
-    ghost use Rattle.object_store.specs.Swaps.{Swaps, size_of, swap_need};
+    ghost use Rattle.object_store.specs.Access.{disk_of, log_of};
+    ghost use Rattle.object_store.specs.Copying.{IsCopiedFrom, copied};
+    ghost use Rattle.object_store.specs.Logs.{places_in};
+    ghost use Rattle.object_store.specs.Swaps.{Swaps};
     ghost use Rattle.object_store.specs.Texts.{AreRecords};
 
     /// Puts these records in place of all others, on the disk and then in memory. At `Ok` each crash leaves them from then on, and at any
     /// moment before a crash leaves the old ones or these.
     ///
-    /// They are written as a whole new area of the journal. `Full` comes exactly where that has no room within the limit. Memory can
-    /// only run out before the first device call. A store whose disk has failed is gone, and must be loaded again.
-    pub fn swap(self, alloc: Global, records: Vec<Record>) -> Result<Store<D>, AppendErr<D>>
-        requires { AreRecords records.items }
-        ensures { Swaps self records.items result }
+    /// Each has a body of the store, or none. They are written as a whole new area of the journal, to which the bodies are copied piece by
+    /// piece: a body that can't be read ends it as `Broken`, as a write that fails does. `Full` comes exactly where the area has no room
+    /// within the limit. Memory can only run out before the first device call. A store whose disk has failed is gone, and must be loaded
+    /// again.
+    pub fn swap(self, alloc: Global, records: Vec<Copied>) -> Result<Store<D>, AppendErr<D>>
+        requires there { All (IsCopiedFrom (places_in (log_of self))) records.items }
+        requires are { AreRecords (copied D.is_told (D.kept (disk_of self)).read records.items) }
+        ensures { Swaps self (copied D.is_told (D.kept (disk_of self)).read records.items) result }
     {
-        let Ok(made) = prepared(alloc, records) else {
+        let Ok(mut made) = prepared(alloc, records) else {
             return Err(AppendErr::OutOfMemory { store: self });
         };
         let Store { journal, log } = self;
         match journal.swap(alloc, made.payloads.as_slice()) {
-            Ok(journal) => Ok(Store {
-                journal,
-                log: made.log,
-            }),
+            Ok(journal) => {
+                made.log.move_on(journal.area().place);
+                Ok(Store {
+                    journal,
+                    log: made.log,
+                })
+            }
             Err(xt_journal::AppendErr::Broken { count, disk }) => Err(AppendErr::Broken {
                 count,
                 disk,
@@ -100,21 +100,5 @@ impl<D: Disk> Store<D> {
                 Err(AppendErr::OutOfMemory { store })
             }
         }
-    }
-
-    /// What a swap for records whose area has this many bytes reports as its need where it answers `Full`; none where there is room. An
-    /// area that is longer than 64 bits say counts as one of `u64::MAX` bytes. Nothing is done.
-    pub fn swap_need(&self, size: u64) -> Option<u64>
-        ensures { (records : List Record) → size ≡ counted (size_of records) →
-            result ≡ swap_need self.now records }
-    {
-        self.journal.full_need(size)
-    }
-
-    /// The length in bytes past which its journal doesn't grow.
-    pub fn limit(&self) -> u64
-        ensures { result ≡ limit_of (journal_of self.now) }
-    {
-        self.journal.limit()
     }
 }

@@ -15,17 +15,19 @@ fault_in (Err error.NoSuchVersion) = None
 fault_in (Err error.OutOfMemory) = None
 fault_in (Ok bytes) = None
 
--- What a step reports that failed for a body: reading failed, so often in all; or no record put that body.
-abbrev pub IsTold : List Record → ℕ → ℕ → StepErr → Type 0
-IsTold records before after (step.BodyFault count) = (count ≡ after) × Rose before after
-IsTold records before after (step.BodyLost file object version) = (after ≡ before) × (body_kept records file object version ≡ None)
-IsTold records before after step.OutOfMemory = Unit {0}
+-- What a step reports that failed for a body: reading failed, so often in all; or no record put that body, in any list that agrees with
+-- what was read.
+abbrev pub IsTold : (List Record → Type 0) → ℕ → ℕ → StepErr → Type 0
+IsTold agrees before after (step.BodyFault count) = (count ≡ after) × Rose before after
+IsTold agrees before after (step.BodyLost file object version) =
+    (after ≡ before) × ((records : List Record) → agrees records → body_kept records file object version ≡ None)
+IsTold agrees before after step.OutOfMemory = Unit {0}
 
--- A step that reads bodies changes none. It fails for a fault only where the count of faults rose, which stays as it is otherwise,
--- and for a lost body only where no record put that one.
-pub record ReadsOnly {B : Type 0} (records : B → List Record) (faults : B → ℕ) (old new : B) (failure : Option StepErr) : Type 0 where
-  pub same : records new ≡ records old
-  pub failed : IfSome failure (IsTold (records old) (faults old) (faults new))
+-- A step reads bodies and changes none: what agrees with all that it read agreed before. It fails for a fault only where the count of
+-- faults rose, which stays as it is otherwise, and for a lost body only where no record put that one.
+pub record ReadsOnly {B : Type 0} (agrees : B → List Record → Type 0) (faults : B → ℕ) (old new : B) (failure : Option StepErr) : Type 0 where
+  pub later : (records : List Record) → agrees new records → agrees old records
+  pub failed : IfSome failure (IsTold (agrees new) (faults old) (faults new))
   pub sound : IfNone failure (faults new ≡ faults old)
 
 -- for which body a step's result is a failure, if it is for one

@@ -12,9 +12,15 @@ use std::alloc::Global;
 use xt_base::{FileId, Octets, Stamp};
 
 /// What gives back the bodies that were recorded.
+///
+/// Contracts don't know what a real disk gives. So what a step makes of the bodies that it reads is said for each list of records that
+/// agrees with them; where the contents are known, that is one list alone.
 pub trait Bodies {
-    /// What it keeps, the first record first.
-    ghost records: { Self → List Record };
+    /// The lists of records that agree with all that was read so far, the first record first.
+    ghost agrees: { Self → List Record → Type 0 };
+
+    /// There is such a list at any time.
+    ghost some: { (bodies : Self) → (records : List Record) × agrees bodies records };
 
     /// How often reading has failed, up to the greatest 64-bit number.
     ghost fault_count: { Self → ℕ };
@@ -27,14 +33,16 @@ pub trait Bodies {
         object: u64,
         version: &Stamp,
     ) -> Result<Octets, BodyErr>
-        ensures found { IfOk result (λ bytes.
-            body_kept (records self.old) file.now object version.now ≡ Some bytes) }
-        ensures missing { (result ≡ Err NoSuchVersion) ↔
-            (body_kept (records self.old) file.now object version.now ≡ None) }
+        ensures found { IfOk result (λ bytes. (records : List Record) → agrees self.new records →
+            body_kept records file.now object version.now ≡ Some bytes) }
+        ensures missing { (records : List Record) → agrees self.new records →
+            (result ≡ Err NoSuchVersion) ↔
+            (body_kept records file.now object version.now ≡ None) }
         ensures failed { IfSome (fault_in result) (λ count.
             (count ≡ fault_count self.new) × Rose (fault_count self.old) (fault_count self.new)) }
         ensures sound { IfNone (fault_in result) (fault_count self.new ≡ fault_count self.old) }
-        ensures same { records self.new ≡ records self.old };
+        ensures later { (records : List Record) → agrees self.new records →
+            agrees self.old records };
 }
 
 /// No record put this body.
@@ -56,13 +64,14 @@ pub fn seen<B: Bodies>(
     object: u64,
     version: &Stamp,
 ) -> Result<Octets, StepErr>
-    ensures kept { IfOk result (λ bytes.
-        body_kept (B.records bodies.old) file.now object version.now ≡ Some bytes) }
-    ensures lost { (result ≡ Err (BodyLost file.now object version.now)) ↔
-        (body_kept (B.records bodies.old) file.now object version.now ≡ None) }
-    ensures value { IfOk result (λ bytes. bytes ≡
-        body_by (B.records bodies.old) file.now object version.now) }
-    ensures reads { ReadsOnly B.records B.fault_count bodies.old bodies.new (fault_of result) }
+    ensures kept { IfOk result (λ bytes. (records : List Record) → B.agrees bodies.new records →
+        body_kept records file.now object version.now ≡ Some bytes) }
+    ensures lost { (records : List Record) → B.agrees bodies.new records →
+        (result ≡ Err (BodyLost file.now object version.now)) ↔
+        (body_kept records file.now object version.now ≡ None) }
+    ensures value { IfOk result (λ bytes. (records : List Record) → B.agrees bodies.new records →
+        bytes ≡ body_by records file.now object version.now) }
+    ensures reads { ReadsOnly B.agrees B.fault_count bodies.old bodies.new (fault_of result) }
 {
     match bodies.body(alloc, file, object, version) {
         Ok(bytes) => Ok(bytes),

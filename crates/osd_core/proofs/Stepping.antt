@@ -11,10 +11,12 @@ use Rattle.xt_messages.specs.declared.message.Msg.{Msg}
 use Rattle.xt_messages.specs.declared.message.Payload.{Payload}
 use Rattle.xt_messages.specs.declared.event.Event.{Event}
 use Rattle.xt_messages.specs.declared.record.FileRow.{FileRow}
+use Rattle.xt_messages.specs.declared.record.Record.{Record}
 use Rattle.xt_protocol.specs.FileIds.{file_cmp}
 use Rattle.xt_protocol.specs.Folds.{new_row}
 use Rattle.xt_protocol.specs.LeaseRows.{Silent, Awake, awake_at, is_silent}
 use Rattle.xt_protocol.specs.declared.turned.Turned.{Turned}
+use Rattle.xt_protocol.specs.SeenBodies.{body_by}
 use Rattle.xt_protocol.specs.Turns.{quiet, joined, sends}
 use Rattle.xt_protocol.specs.FileStates.{FileState, FileStep, Site}
 use Rattle.xt_protocol.specs.Overdue.{expired}
@@ -161,18 +163,19 @@ met_take site awake msg file old made new p q turned are met there writes sound 
               resting = λ idle. was.resting (sym (met.busy.0 f ∙ ap (λ b. cond b true (is_among old.busy.keys f)) is) ∙ idle);
             }
 
-pub met_took : {E : Type 0} (now : ℕ) (sealed : Bool) (body : FileId → ℕ → Stamp → List ℕ) (awake : Awake) (msg : Msg) (file : FileId) (old made : MetFiles) (new : BTreeMap FileId Slot) (p q : Slot) (r : Result Turned E)
+pub met_took : {E : Type 0} (agrees : List Record → Type 0) (now : ℕ) (sealed : Bool) (awake : Awake) (msg : Msg) (file : FileId) (old made : MetFiles) (new : BTreeMap FileId Slot) (p q : Slot) (r : Result Turned E)
     → AreMet awake old → IsMet file old made → slot_at file made.slots.entries ≡ Some p → WritesThrough file_cmp (file_cmp file) made.slots q new → IfOk r (λ turned. IsSoundSlot awake q)
-    → IfOk r (λ turned. IsRowOn (λ site s. step_of_file site s msg.from msg.payload) msg.payload sealed now body (view_of awake p) (view_of awake q) turned) → file_concerned msg.payload ≡ Some file
-    → IfOk r (λ turned. (test : Capability → Bool) → IsSealedBy test msg.payload sealed
-    → StepsFiles (λ files. handle_message (site_at awake now test body) awake files msg (file_concerned msg.payload)) awake old (record { slots = new; busy = made.busy }) turned)
-met_took now sealed body awake msg file old made new p q (Ok turned) are met there writes sound row concerns =
-    λ test is_sealed.
-    let site = site_at awake now test body in
+    → IfOk r (λ turned. (records : List Record) → agrees records
+    → IsRowOn (λ site s. step_of_file site s msg.from msg.payload) msg.payload sealed now (body_by records) (view_of awake p) (view_of awake q) turned) → file_concerned msg.payload ≡ Some file
+    → IfOk r (λ turned. (records : List Record) → agrees records → (test : Capability → Bool) → IsSealedBy test msg.payload sealed
+    → StepsFiles (λ files. handle_message (site_at awake now test (body_by records)) awake files msg (file_concerned msg.payload)) awake old (record { slots = new; busy = made.busy }) turned)
+met_took agrees now sealed awake msg file old made new p q (Ok turned) are met there writes sound row concerns =
+    λ records agree test is_sealed.
+    let site = site_at awake now test (body_by records) in
     let after : MetFiles = record { slots = new; busy = made.busy } in
     subst (λ o. StepsFiles (λ files. handle_message site awake files msg o) awake old after turned) (sym concerns)
-    (met_take site awake msg file old made new p q turned are met there writes sound (row test is_sealed).step)
-met_took now sealed body awake msg file old made new p q (Err e) are met there writes sound row concerns = sound
+    (met_take site awake msg file old made new p q turned are met there writes sound (row records agree test is_sealed).step)
+met_took agrees now sealed awake msg file old made new p q (Err e) are met there writes sound row concerns = sound
 
 -- ---- a Wake
 

@@ -1,12 +1,12 @@
 -- the steps of a file at an OSD: a Wake while it is a row, and a message, which leaves it at its OSD
 use Rattle.std.proofs.Common.{◌≡◌, ℕ, Bool, List, Result, Ok, Err, IfOk, refl, ap, sym, subst, ◌∙◌}
-use Rattle.xt_base.specs.declared.ids.FileId.{FileId}
-use Rattle.xt_base.specs.declared.ids.Stamp.{Stamp}
 use Rattle.xt_messages.specs.declared.message.Payload.{Payload}
 use Rattle.xt_messages.specs.declared.message.Payload.TheVariants as payload
 use Rattle.xt_messages.specs.declared.record.FileRow.{FileRow}
+use Rattle.xt_messages.specs.declared.record.Record.{Record}
 use Rattle.xt_protocol.specs.LeaseRows.{Awake}
 use Rattle.xt_protocol.specs.declared.turned.Turned.{Turned}
+use Rattle.xt_protocol.specs.SeenBodies.{body_by}
 use Rattle.xt_protocol.specs.Turns.{quiet}
 use Rattle.xt_protocol.specs.FileStates.{FileState, FileStep, Site, file_from, nothing}
 use Rattle.xt_protocol.specs.Overdue.{expired}
@@ -52,7 +52,7 @@ row_wakes now awake s row woken is overdue again =
 
 -- ---- a message
 
-if_ok : {A E : Type 0} (P Q : A → Type 0) (r : Result A E) → ((a : A) → P a → Q a) → IfOk r P → IfOk r Q
+pub if_ok : {A E : Type 0} (P Q : A → Type 0) (r : Result A E) → ((a : A) → P a → Q a) → IfOk r P → IfOk r Q
 if_ok P Q (Ok a) all h = all a h
 if_ok P Q (Err e) all h = h
 
@@ -62,8 +62,22 @@ says_so (payload.Ask number capability asked) sealed = refl
 says_so _ sealed = tt
 
 -- its file stays at this OSD
-pub slot_stays : {E : Type 0} (row : Site → FileState → FileStep) (content : Payload) (sealed : Bool) (now : ℕ) (body : FileId → ℕ → Stamp → List ℕ) (awake : Awake) (old : Slot) (file new : FileView)
-    (r : Result Turned E) → file ≡ view_of awake old → IfOk r (λ turned. IsRowOn row content sealed now body file new turned) → IfOk r (λ turned. IsSoundSlot awake (slot.File new))
-slot_stays row content sealed now body awake old file new r is took =
-    if_ok (λ turned. IsRowOn row content sealed now body file new turned) (λ turned. IsSoundSlot awake (slot.File new)) r
-    (λ turned did. (did (λ capability. sealed) (says_so content sealed)).here ∙ ap (λ (f : FileView). f.awake) is) took
+pub slot_stays : {E : Type 0} (agrees : List Record → Type 0) (row : Site → FileState → FileStep) (content : Payload) (sealed : Bool) (now : ℕ) (awake : Awake) (old : Slot) (file new : FileView)
+    (r : Result Turned E) → (one : (records : List Record) × agrees records) → file ≡ view_of awake old
+    → IfOk r (λ turned. (records : List Record) → agrees records → IsRowOn row content sealed now (body_by records) file new turned) → IfOk r (λ turned. IsSoundSlot awake (slot.File new))
+slot_stays agrees row content sealed now awake old file new r one is took =
+    if_ok (λ turned. (records : List Record) → agrees records → IsRowOn row content sealed now (body_by records) file new turned) (λ turned. IsSoundSlot awake (slot.File new)) r
+    (λ turned did. (did one.0 one.1 (λ capability. sealed) (says_so content sealed)).here ∙ ap (λ (f : FileView). f.awake) is) took
+
+-- its row, as its slot shows it
+pub slot_row : {E : Type 0} (agrees : List Record → Type 0) (row : Site → FileState → FileStep) (content : Payload) (sealed : Bool) (now : ℕ) (awake : Awake) (old : Slot) (file new : FileView)
+    (r : Result Turned E) → file ≡ view_of awake old
+    → IfOk r (λ turned. (records : List Record) → agrees records → IsRowOn row content sealed now (body_by records) file new turned)
+    → IfOk r (λ turned. (records : List Record) → agrees records → IsRowOn row content sealed now (body_by records) (view_of awake old) (view_of awake (slot.File new)) turned)
+slot_row agrees row content sealed now awake old file new r is took =
+    let P : FileView → Turned → Type 0 = λ f turned. (records : List Record) → agrees records → IsRowOn row content sealed now (body_by records) f new turned in
+    let Q : Turned → Type 0 = λ turned. (records : List Record) → agrees records → IsRowOn row content sealed now (body_by records) (view_of awake old) (view_of awake (slot.File new)) turned in
+    let all : (turned : Turned) → P (view_of awake old) turned → Q turned = λ turned did records agree test so.
+    record { here = refl; step = (did records agree test so).step }
+    in
+    if_ok (P (view_of awake old)) Q r all (subst (λ (f : FileView). IfOk r (P f)) is took)

@@ -1,10 +1,11 @@
-ghost use Rattle.std.specs.Prelude.{◌≡◌, ◌<◌, ◌^◌, Ok, IfOk, IfSome};
+ghost use Rattle.std.specs.Prelude.{◌≡◌, ◌<◌, ◌^◌, List, [], Ok, IfOk, IfSome, OnErr, max};
 ghost use Rattle.xt_protocol.specs.SeenBodies.{body_by};
 ghost use Rattle.object_versions.specs.KeptBodies.{fault_of, ReadsOnly};
 ghost use Rattle.xt_protocol.specs.Forgetting.{keep_of, osd_without};
 ghost use Rattle.xt_protocol.specs.OsdSteps.{handle_event, osd_from, step_of_osd};
 ghost use Rattle.osd_files.specs.Views.{site_at};
 ghost use Rattle.xt_messages.specs.Limits.{FitsEvent};
+ghost use Rattle.xt_messages.specs.declared.record.Record.{Record};
 ghost use Rattle.osd_core.specs.Keys.{FitsKey, sealed_by, stops_by, outside_of};
 ghost use Rattle.osd_core.specs.Slots.{AreMet, AreRows, StepsFiles};
 
@@ -77,11 +78,10 @@ fn handle<B: Bodies>(
     requires met { AreMet awake met.old }
     requires clock { now < 2 ^ 62 }
     requires fits { FitsEvent ev.now }
-    ensures step { IfOk result (λ turned.
-        StepsFiles (λ files.
-        handle_event (site_at awake now (sealed_by key.now) (body_by (B.records bodies.old))) awake
-        files ev.now) awake met.old met.new turned) }
-    ensures reads { ReadsOnly B.records B.fault_count bodies.old bodies.new (fault_of result) }
+    ensures step { IfOk result (λ turned. (records : List Record) → B.agrees bodies.new records →
+        StepsFiles (λ files. handle_event (site_at awake now (sealed_by key.now) (body_by records))
+        awake files ev.now) awake met.old met.new turned) }
+    ensures reads { ReadsOnly B.agrees B.fault_count bodies.old bodies.new (fault_of result) }
 {
     match ev {
         Event::Deliver(msg) => {
@@ -126,7 +126,7 @@ impl Osd {
     }
 
     /// The step on an event at a reading of the clock, in milliseconds. After an error, since memory ran out or a body couldn't
-    /// be read, the OSD isn't to be used again; it has no files then.
+    /// be read, it has no files. It isn't to be used again then: its records still have them, and it would answer as if they hadn't.
     pub fn step<B: Bodies>(
         &mut self,
         bodies: &mut B,
@@ -135,11 +135,16 @@ impl Osd {
     ) -> Result<Turned, StepErr>
         requires clock { now < 2 ^ 62 }
         requires fits { FitsEvent ev.now }
-        ensures step { IfOk result (λ turned.
-            step_of_osd (outside_of self.old.key (B.records bodies.old)) self.old.state now ev.now ≡
+        ensures step { IfOk result (λ turned. (records : List Record) → B.agrees bodies.new records →
+            step_of_osd (outside_of self.old.key records) self.old.state now ev.now ≡
             record { osd = self.new.state; turned = turned }) }
         ensures key { IfOk result (λ turned. self.new.key ≡ self.old.key) }
-        ensures reads { ReadsOnly B.records B.fault_count bodies.old bodies.new (fault_of result) }
+        ensures failed { OnErr result (self.new ≡
+            record {
+              key = self.old.key;
+              state = record self.old.state { last = max now self.old.state.last; files = [] };
+            }) }
+        ensures reads { ReadsOnly B.agrees B.fault_count bodies.old bodies.new (fault_of result) }
     {
         let now = now.max(self.last);
         let Some(awake) = self.silent.awake(now) else {

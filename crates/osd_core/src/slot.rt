@@ -1,5 +1,6 @@
-ghost use Rattle.std.specs.Prelude.{◌≡◌, ◌<◌, ◌^◌, ◌++◌, [], IfOk, OnOk};
+ghost use Rattle.std.specs.Prelude.{◌≡◌, ◌<◌, ◌^◌, ◌++◌, List, [], IfOk, OnOk};
 ghost use Rattle.xt_messages.specs.Limits.{FitsPayload};
+ghost use Rattle.xt_messages.specs.declared.record.Record.{Record};
 ghost use Rattle.xt_protocol.specs.Folds.{new_row};
 ghost use Rattle.xt_protocol.specs.LeaseRows.{Awake};
 ghost use Rattle.xt_protocol.specs.SeenBodies.{body_by};
@@ -122,11 +123,10 @@ impl Slot {
         requires clock { now < 2 ^ 62 }
         requires fits { FitsPayload msg.now.payload }
         ensures sound { IfOk result (λ turned. IsSoundSlot awake self.new) }
-        ensures row { IfOk result (λ turned.
+        ensures row { IfOk result (λ turned. (records : List Record) → B.agrees bodies.new records →
             IsRowOn (λ site s. step_of_file site s msg.now.from msg.now.payload) msg.now.payload
-            sealed now (body_by (B.records bodies.old)) (view_of awake self.old)
-            (view_of awake self.new) turned) }
-        ensures reads { ReadsOnly B.records B.fault_count bodies.old bodies.new (fault_of result) }
+            sealed now (body_by records) (view_of awake self.old) (view_of awake self.new) turned) }
+        ensures reads { ReadsOnly B.agrees B.fault_count bodies.old bodies.new (fault_of result) }
     {
         self.open(alloc, awake);
         let Slot::File(file) = self else {

@@ -4,6 +4,7 @@ ghost use Rattle.xt_messages.specs.Limits.{FitsPayload};
 ghost use Rattle.xt_base.specs.declared.ids.FileId.{FileId};
 ghost use Rattle.xt_base.specs.declared.ids.Stamp.{Stamp};
 ghost use Rattle.xt_messages.specs.declared.file.Capability.{Capability};
+ghost use Rattle.xt_messages.specs.declared.record.Record.{Record};
 ghost use Rattle.xt_protocol.specs.FileIds.{file_cmp};
 ghost use Rattle.xt_protocol.specs.Forgetting.{needed_of};
 ghost use Rattle.xt_protocol.specs.LeaseRows.{Awake};
@@ -48,7 +49,8 @@ pub fn met_from(alloc: Global, rows: FileTable) -> Result<MetFiles, OutOfMemory>
 
 /// No files.
 pub fn clear(met: &mut MetFiles)
-    ensures { (awake : Awake) → AreMet awake met.new }
+    ensures none { met.new.slots.entries ≡ [] }
+    ensures met { (awake : Awake) → AreMet awake met.new }
 {
     met.slots.clear();
     met.busy.clear();
@@ -94,12 +96,11 @@ pub fn take<B: Bodies>(
     requires met { AreMet awake met.old }
     requires clock { now < 2 ^ 62 }
     requires fits { FitsPayload msg.now.payload }
-    ensures step { IfOk result (λ turned. (test : Capability → Bool) →
-        IsSealedBy test msg.now.payload sealed →
-        StepsFiles (λ files.
-        handle_message (site_at awake now test (body_by (B.records bodies.old))) awake files
+    ensures step { IfOk result (λ turned. (records : List Record) → B.agrees bodies.new records →
+        (test : Capability → Bool) → IsSealedBy test msg.now.payload sealed →
+        StepsFiles (λ files. handle_message (site_at awake now test (body_by records)) awake files
         msg.now (file_concerned msg.now.payload)) awake met.old met.new turned) }
-    ensures reads { ReadsOnly B.records B.fault_count bodies.old bodies.new (fault_of result) }
+    ensures reads { ReadsOnly B.agrees B.fault_count bodies.old bodies.new (fault_of result) }
 {
     let Some(file) = file_concerned(&msg.payload) else {
         return Ok(quiet(alloc));

@@ -1,4 +1,5 @@
 ghost use Rattle.std.specs.Prelude.{◌≡◌, [], List, IfOk};
+ghost use Rattle.xt_messages.specs.declared.record.Record.{Record};
 ghost use Rattle.xt_messages.specs.declared.file.FileHead.{FileHead};
 ghost use Rattle.xt_messages.specs.declared.file.ObjectVersion.{ObjectVersion};
 ghost use Rattle.xt_protocol.specs.Objects as plain;
@@ -23,9 +24,9 @@ pub fn present_body<B: Bodies>(
     object: u64,
     version: Option<Stamp>,
 ) -> Result<Octets, StepErr>
-    ensures value { IfOk result (λ body. body ≡
-        plain.present_body (body_by (B.records bodies.old) file.now) version object) }
-    ensures reads { ReadsOnly B.records B.fault_count bodies.old bodies.new (fault_of result) }
+    ensures value { IfOk result (λ body. (records : List Record) → B.agrees bodies.new records →
+        body ≡ plain.present_body (body_by records file.now) version object) }
+    ensures reads { ReadsOnly B.agrees B.fault_count bodies.old bodies.new (fault_of result) }
 {
     match version {
         None => Ok(Octets::new(alloc)),
@@ -44,9 +45,9 @@ pub fn bytes_shown<B: Bodies>(
     op: &Op,
 ) -> Result<Octets, StepErr>
     requires { HeadRises head.now }
-    ensures value { IfOk result (λ bytes. bytes ≡
-        rows.bytes_shown stripe (body_by (B.records bodies.old) file.now) head.now op.now) }
-    ensures reads { ReadsOnly B.records B.fault_count bodies.old bodies.new (fault_of result) }
+    ensures value { IfOk result (λ bytes. (records : List Record) → B.agrees bodies.new records →
+        bytes ≡ rows.bytes_shown stripe (body_by records file.now) head.now op.now) }
+    ensures reads { ReadsOnly B.agrees B.fault_count bodies.old bodies.new (fault_of result) }
 {
     let Op::Read { object, at, len } = op else {
         return Ok(Octets::new(alloc));
@@ -67,15 +68,16 @@ pub fn reads_under<B: Bodies>(
     op: &Op,
 ) -> Result<Option<Reply>, StepErr>
     requires { CommittedUnder tenure.now }
-    ensures value { IfOk result (λ answer. (own : FileHead) (held : List ObjectVersion) →
+    ensures value { IfOk result (λ answer. (records : List Record) → B.agrees bodies.new records →
+        (own : FileHead) (held : List ObjectVersion) →
         answer ≡
         reads_under (record {
           place = place.now;
           own = own;
           held = held;
-          body = body_by (B.records bodies.old) place.now.file;
+          body = body_by records place.now.file;
         }) tenure.now op.now) }
-    ensures reads { ReadsOnly B.records B.fault_count bodies.old bodies.new (fault_of result) }
+    ensures reads { ReadsOnly B.agrees B.fault_count bodies.old bodies.new (fault_of result) }
 {
     let Some(
         Tenure {

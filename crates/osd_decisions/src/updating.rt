@@ -1,4 +1,5 @@
-ghost use Rattle.std.specs.Prelude.{◌≡◌, ◌<◌, ◌≤◌, ◌^◌, ◌+◌, ◌*◌, length, take, [], IsTrue, if◌then◌else◌, IfOk};
+ghost use Rattle.std.specs.Prelude.{◌≡◌, ◌<◌, ◌≤◌, ◌^◌, ◌+◌, ◌*◌, length, take, [], IsTrue, if◌then◌else◌, IfOk, List};
+ghost use Rattle.xt_messages.specs.declared.record.Record.{Record};
 ghost use Rattle.xt_messages.specs.Limits.{FitsOp};
 ghost use Rattle.xt_protocol.specs.SeenBodies.{body_by};
 ghost use Rattle.xt_protocol.specs.Writes as rows;
@@ -27,10 +28,10 @@ fn written<B: Bodies>(
     requires near { object < 2 ^ 32 }
     requires few { length bytes.now ≤ 131072 }
     requires rising { HeadRises head.now }
-    ensures value { IfOk result (λ update. update ≡
-        rows.written stripe (body_by (B.records bodies.old) file.now) head.now stamp id object at
+    ensures value { IfOk result (λ update. (records : List Record) → B.agrees bodies.new records →
+        update ≡ rows.written stripe (body_by records file.now) head.now stamp id object at
         bytes.now) }
-    ensures reads { ReadsOnly B.records B.fault_count bodies.old bodies.new (fault_of result) }
+    ensures reads { ReadsOnly B.agrees B.fault_count bodies.old bodies.new (fault_of result) }
 {
     let version = version_of(head.versions.as_slice(), object);
     let old = present_body(bodies, alloc, file, object, version)?;
@@ -75,10 +76,9 @@ fn truncated<B: Bodies>(
 ) -> Result<Update, StepErr>
     requires some { 1024 ≤ stripe }
     requires rising { HeadRises head.now }
-    ensures value { IfOk result (λ update. update ≡
-        rows.truncated stripe (body_by (B.records bodies.old) file.now) head.now stamp id epoch
-        size) }
-    ensures reads { ReadsOnly B.records B.fault_count bodies.old bodies.new (fault_of result) }
+    ensures value { IfOk result (λ update. (records : List Record) → B.agrees bodies.new records →
+        update ≡ rows.truncated stripe (body_by records file.now) head.now stamp id epoch size) }
+    ensures reads { ReadsOnly B.agrees B.fault_count bodies.old bodies.new (fault_of result) }
 {
     let stripe = u64::from(stripe);
     let last = size / stripe;
@@ -123,10 +123,9 @@ pub fn update_of<B: Bodies>(
     requires some { 1024 ≤ stripe }
     requires fits { FitsOp op.now }
     requires rising { HeadRises head.now }
-    ensures value { IfOk result (λ update. update ≡
-        rows.update_of stripe (body_by (B.records bodies.old) file.now) head.now stamp id epoch
-        op.now) }
-    ensures reads { ReadsOnly B.records B.fault_count bodies.old bodies.new (fault_of result) }
+    ensures value { IfOk result (λ update. (records : List Record) → B.agrees bodies.new records →
+        update ≡ rows.update_of stripe (body_by records file.now) head.now stamp id epoch op.now) }
+    ensures reads { ReadsOnly B.agrees B.fault_count bodies.old bodies.new (fault_of result) }
 {
     match op {
         Op::Read { .. } => Ok(None),

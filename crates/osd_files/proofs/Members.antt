@@ -1,21 +1,19 @@
 -- an ask on a striped file: what the replica takes is within its limits, and the step is the row's
-use Rattle.std.proofs.Common.{◌≡◌, ◌∙◌, ◌<◌, ◌≤◌, ◌^◌, ◌-◌, ◌⊎◌, inl, inr, ℕ, Bool, true, false, refl, ap, sym, subst, List, [], length, arith, nat_lt, nat_le, cond, max}
-use Rattle.std.specs.Prelude.{Option, Some, None, IfSome, ◌+◌, ◌*◌, ◌/◌, ◌%◌, ◌==◌, ◌&&◌, if◌then◌else◌}
+use Rattle.std.proofs.Common.{◌≡◌, ◌∙◌, ◌<◌, ◌≤◌, ◌^◌, ◌-◌, inl, inr, ℕ, Bool, true, false, refl, ap, sym, subst, List, length, arith, nat_lt, nat_le, cond, max}
+use Rattle.std.specs.Prelude.{Option, Some, None, IfSome, ◌+◌, ◌*◌, ◌/◌, ◌==◌, ◌&&◌, if◌then◌else◌}
 use Rattle.std.proofs.Math.Nat.{mul-le-mul, div-le_of_le-mul}
 use Rattle.std.proofs.lemmas.Bool.{and_parts}
 use Rattle.std.proofs.lemmas.Bool.Decides.{nat_tests}
 use Rattle.xt_base.specs.MemberList.{are_distinct}
-use Rattle.xt_base.specs.FieldLimits.{IsCount, FitsBytes}
-use Rattle.xt_base.specs.declared.ids.NodeId.{NodeId}
+use Rattle.xt_base.specs.FieldLimits.{IsCount}
 use Rattle.xt_base.specs.declared.ids.Epoch.{Epoch}
 use Rattle.xt_base.specs.declared.ids.Stamp.{Stamp}
 use Rattle.xt_base.specs.declared.ids.OpId.{OpId}
-use Rattle.xt_base.specs.declared.TheConstants.{OBJECTS, COUNTS, CLIENTS, NO_OBJECT, BODY}
-use Rattle.xt_messages.specs.Limits.{FitsHead, FitsOpId, FitsOp, FitsCapability, FitsLocation, FitsStamp, FitsMark, IsObjectOrNone, is_at_most}
+use Rattle.xt_base.specs.declared.TheConstants.{OBJECTS, COUNTS, NO_OBJECT}
+use Rattle.xt_messages.specs.Limits.{FitsHead, FitsOpId, FitsOp, FitsCapability, FitsLocation, FitsStamp, IsObjectOrNone, is_at_most}
 use Rattle.xt_messages.specs.declared.file.Location.{Location}
 use Rattle.xt_messages.specs.declared.file.Capability.{Capability}
 use Rattle.xt_messages.specs.declared.file.FileHead.{FileHead}
-use Rattle.xt_messages.specs.declared.file.ObjectVersion.{ObjectVersion}
 use Rattle.xt_messages.specs.declared.file.Session.{Session}
 use Rattle.xt_messages.specs.declared.file.Update.{Update}
 use Rattle.xt_messages.specs.declared.file.Op.{Op}
@@ -25,19 +23,14 @@ use Rattle.xt_messages.specs.declared.reply.Denial.TheVariants as denial
 use Rattle.xt_messages.specs.declared.reply.Reply.{Reply}
 use Rattle.xt_messages.specs.declared.reply.Reply.TheVariants as reply
 use Rattle.xt_messages.specs.declared.record.FileRow.{FileRow}
-use Rattle.xt_messages.specs.declared.record.Record.{Record}
 use Rattle.xt_protocol.specs.declared.states.Acted.{Acted}
-use Rattle.xt_protocol.specs.declared.turned.Turned.{Turned}
 use Rattle.xt_protocol.specs.AskRows.{capability_refused, leaves_object}
-use Rattle.xt_protocol.specs.FileStates.{FileState, Site, FileStep, staged_after}
-use Rattle.xt_protocol.specs.FileSteps.{replica_acts}
+use Rattle.xt_protocol.specs.FileStates.{Site}
 use Rattle.xt_protocol.specs.Heads.{plain_stamp, first_epoch, version_of, session_of, head_after}
 use Rattle.xt_protocol.specs.Objects.{present_body}
-use Rattle.xt_protocol.specs.Primaries.{if_any}
-use Rattle.xt_protocol.specs.ReplicaRows.{kept_after}
 use Rattle.xt_protocol.specs.StripedRows.{capability_range_list, range_and_list, striped_refusal, member_acts, to_client, handle_striped}
 use Rattle.xt_protocol.specs.PlainRows.{only, plain_step}
-use Rattle.xt_protocol.specs.Writes.{WriteStanding, repeated, older, turned_away, fresh, is_old_epoch, too_far, room_for_client, reach, judged, known_client, by_session, standing, written, objects_of, cuts_body, truncated, update_of}
+use Rattle.xt_protocol.specs.Writes.{WriteStanding, repeated, older, turned_away, fresh, is_old_epoch, too_far, reach, judged, by_session, standing, cuts_body, update_of}
 use Rattle.replica_state.specs.Kept.{IsNotable}
 use Rattle.replica_state.proofs.HeadFits.{FitsInHead, taken_fits}
 use Rattle.osd_invariants.proofs.StripedAsks.{KeepsUpdate, striped_outcome}

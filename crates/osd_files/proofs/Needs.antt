@@ -2,7 +2,6 @@
 use Rattle.std.proofs.Common.{◌≡◌, ap, refl, List, Option, Some, None}
 use Rattle.xt_base.specs.declared.ids.NodeId.{NodeId}
 use Rattle.xt_messages.specs.declared.file.FileHead.{FileHead}
-use Rattle.xt_messages.specs.declared.file.ObjectVersion.{ObjectVersion}
 use Rattle.xt_protocol.specs.declared.states.Peer.{Peer}
 use Rattle.xt_protocol.specs.declared.states.Progress.{Progress}
 use Rattle.xt_protocol.specs.declared.states.Progress.TheVariants as progress

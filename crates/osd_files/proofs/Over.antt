@@ -1,8 +1,5 @@
 -- what is overdue at a file, by what became of its lease
-use Rattle.std.proofs.Common.{◌≡◌, ◌∙◌, ℕ, Bool, true, false, refl, ap, sym, subst, cond, Option, Some, None, List, []}
-use Rattle.xt_base.specs.declared.ids.FileId.{FileId}
-use Rattle.xt_base.specs.declared.ids.Stamp.{Stamp}
-use Rattle.xt_messages.specs.declared.file.Capability.{Capability}
+use Rattle.std.proofs.Common.{◌≡◌, ◌∙◌, ℕ, Bool, true, false, refl, ap, sym, subst, cond, Option, Some, None, []}
 use Rattle.xt_messages.specs.declared.reply.Reply.{Reply}
 use Rattle.xt_protocol.specs.declared.turned.Turned.{Turned}
 use Rattle.xt_protocol.specs.LeaseRows.{LeaseState, free, asking, writing, held, lease_expired, has_run_out, has_turn, round_over, renewal_left}

@@ -9,6 +9,7 @@ use Rattle.xt_messages.specs.declared.file.Capability.{Capability}
 use Rattle.xt_protocol.specs.declared.turned.Turned.{Turned}
 use Rattle.xt_protocol.specs.FileStates.{FileState, Site, FileStep}
 use Rattle.xt_protocol.specs.Primaries.{idle}
+use Rattle.xt_protocol.specs.SeenBodies.{body_by}
 use Rattle.xt_protocol.specs.Turns.{joined}
 use Rattle.xt_base.specs.declared.ids.NodeId.{NodeId}
 use Rattle.xt_messages.specs.declared.message.Payload.{Payload}
@@ -111,22 +112,26 @@ if_none None a b c first next = first ∙ next
 if_none (Some n) a b c first next = first
 
 -- a step reads as the part of it that fails
-pub reads_as : {B : Type 0} (records : B → List Record) (faults : B → ℕ) (old new : B) (part whole : Option StepErr) → whole ≡ part
-    → ReadsOnly records faults old new part → ReadsOnly records faults old new whole
-reads_as records faults old new part whole same reads = subst (λ (f : Option StepErr). ReadsOnly records faults old new f) (sym same) reads
+pub reads_as : {B : Type 0} (agrees : B → List Record → Type 0) (faults : B → ℕ) (old new : B) (part whole : Option StepErr) → whole ≡ part
+    → ReadsOnly agrees faults old new part → ReadsOnly agrees faults old new whole
+reads_as agrees faults old new part whole same reads = subst (λ (f : Option StepErr). ReadsOnly agrees faults old new f) (sym same) reads
 
 -- the same after a part that has not failed
-pub reads_behind : {B : Type 0} (records : B → List Record) (faults : B → ℕ) (old mid new : B) (part whole : Option StepErr) → whole ≡ part
-    → ReadsOnly records faults old mid None → ReadsOnly records faults mid new part → ReadsOnly records faults old new whole
-reads_behind records faults old mid new part whole same first next =
-    reads_as records faults old new part whole same
+pub reads_behind : {B : Type 0} (agrees : B → List Record → Type 0) (faults : B → ℕ) (old mid new : B) (part whole : Option StepErr) → whole ≡ part
+    → ReadsOnly agrees faults old mid None → ReadsOnly agrees faults mid new part → ReadsOnly agrees faults old new whole
+reads_behind agrees faults old mid new part whole same first next =
+    reads_as agrees faults old new part whole same
     (record {
-      same = next.same ∙ first.same;
-      failed =
-          subst (λ (n : ℕ). IfSome part (IsTold (records old) n (faults new))) first.sound
-          (subst (λ (rs : List Record). IfSome part (IsTold rs (faults mid) (faults new))) first.same next.failed);
+      later = λ records agree. first.later records (next.later records agree);
+      failed = subst (λ (n : ℕ). IfSome part (IsTold (agrees new) n (faults new))) first.sound next.failed;
       sound = if_none part (faults new) (faults mid) (faults old) next.sound first.sound;
     })
+
+-- what holds for each list of records that agrees, for one of them
+pub for_one : {A E : Type 0} (agrees : List Record → Type 0) (P : List Record → A → Type 0) (r : Result A E) (one : (records : List Record) × agrees records)
+    → IfOk r (λ a. (records : List Record) → agrees records → P records a) → IfOk r (P one.0)
+for_one agrees P (Ok a) one each = each one.0 one.1
+for_one agrees P (Err e) one each = each
 
 -- Tests.
 
@@ -159,30 +164,34 @@ answered site s from content l end news is-l is-end is-news =
     ∙ ap (λ (e : ℕ). by l e step.news) (sym is-end)
     ∙ ap (λ (n : LeaseNews). by l end n) (sym is-news)
 
--- the same, where a body is this
-pub rows_by : {E : Type 0} (first second : Site → FileState → FileStep) (now : ℕ) (body : FileId → ℕ → Stamp → List ℕ) (awake : Awake) (old mid : FileState) (new : FileView) (r : Result Turned E)
-    → ((sealed : Capability → Bool) → second (site_at awake now sealed body) old ≡ first (site_at awake now sealed body) mid)
-    → IfOk r (λ turned. IsRowBy first now body (record { awake = awake; state = mid }) new turned)
-    → IfOk r (λ turned. IsRowBy second now body (record { awake = awake; state = old }) new turned)
-rows_by first second now body awake old mid new r same rows =
-    let P : Turned → Type 0 = λ turned. IsRowBy first now body (record { awake = awake; state = mid }) new turned in
-    let Q : Turned → Type 0 = λ turned. IsRowBy second now body (record { awake = awake; state = old }) new turned in
-    let all : (turned : Turned) → P turned → Q turned = λ turned row sealed. record { here = (row sealed).here; step = same sealed ∙ (row sealed).step } in
+-- the same, where bodies are those of records that agree
+pub rows_by : {E : Type 0} (agrees : List Record → Type 0) (first second : Site → FileState → FileStep) (now : ℕ) (awake : Awake) (old mid : FileState) (new : FileView) (r : Result Turned E)
+    → ((records : List Record) (sealed : Capability → Bool) → second (site_at awake now sealed (body_by records)) old ≡ first (site_at awake now sealed (body_by records)) mid)
+    → IfOk r (λ turned. (records : List Record) → agrees records → IsRowBy first now (body_by records) (record { awake = awake; state = mid }) new turned)
+    → IfOk r (λ turned. (records : List Record) → agrees records → IsRowBy second now (body_by records) (record { awake = awake; state = old }) new turned)
+rows_by agrees first second now awake old mid new r same rows =
+    let P : Turned → Type 0 = λ turned. (records : List Record) → agrees records → IsRowBy first now (body_by records) (record { awake = awake; state = mid }) new turned in
+    let Q : Turned → Type 0 = λ turned. (records : List Record) → agrees records → IsRowBy second now (body_by records) (record { awake = awake; state = old }) new turned in
+    let all : (turned : Turned) → P turned → Q turned = λ turned of records agree sealed.
+    let row = of records agree sealed in
+    record { here = row.here; step = same records sealed ∙ row.step }
+    in
     if_ok P Q r all rows
 
-pub joins_by : {E F : Type 0} (row whole : Site → FileState → FileStep) (now : ℕ) (body : FileId → ℕ → Stamp → List ℕ) (awake : Awake) (old mid : FileState) (new : FileView) (first : Turned) (rest : Result Turned E) (r : Result Turned F)
-    → ((sealed : Capability → Bool) → whole (site_at awake now sealed body) old ≡ behind_it first (row (site_at awake now sealed body) mid))
-    → IfOk rest (λ next. IsRowBy row now body (record { awake = awake; state = mid }) new next)
+pub joins_by : {E F : Type 0} (agrees : List Record → Type 0) (row whole : Site → FileState → FileStep) (now : ℕ) (awake : Awake) (old mid : FileState) (new : FileView) (first : Turned) (rest : Result Turned E) (r : Result Turned F)
+    → ((records : List Record) (sealed : Capability → Bool) → whole (site_at awake now sealed (body_by records)) old ≡ behind_it first (row (site_at awake now sealed (body_by records)) mid))
+    → IfOk rest (λ next. (records : List Record) → agrees records → IsRowBy row now (body_by records) (record { awake = awake; state = mid }) new next)
     → IfOk r (λ turned. (next : Turned) × (rest ≡ Ok next) × (turned ≡ joined first next))
-    → IfOk r (λ turned. IsRowBy whole now body (record { awake = awake; state = old }) new turned)
-joins_by row whole now body awake old mid new first rest r same step made =
-    let P : Turned → Type 0 = λ turned. IsRowBy row now body (record { awake = awake; state = mid }) new turned in
-    let Q : Turned → Type 0 = λ turned. IsRowBy whole now body (record { awake = awake; state = old }) new turned in
-    let all : (next turned : Turned) → P next → turned ≡ joined first next → Q turned = λ next turned of is sealed.
+    → IfOk r (λ turned. (records : List Record) → agrees records → IsRowBy whole now (body_by records) (record { awake = awake; state = old }) new turned)
+joins_by agrees row whole now awake old mid new first rest r same step made =
+    let P : Turned → Type 0 = λ turned. (records : List Record) → agrees records → IsRowBy row now (body_by records) (record { awake = awake; state = mid }) new turned in
+    let Q : Turned → Type 0 = λ turned. (records : List Record) → agrees records → IsRowBy whole now (body_by records) (record { awake = awake; state = old }) new turned in
+    let all : (next turned : Turned) → P next → turned ≡ joined first next → Q turned = λ next turned of is records agree sealed.
+    let after = of records agree sealed in
     record {
-      here = (of sealed).here;
+      here = after.here;
       step =
-          same sealed ∙ ap (behind_it first) (of sealed).step
+          same records sealed ∙ ap (behind_it first) after.step
           ∙ ap (λ (t : Turned). let made : FileStep = record { state = new.state; turned = t } in made) (sym is);
     }
     in

@@ -3,6 +3,7 @@ ghost use Rattle.xt_messages.specs.Limits.{FitsOp, FitsStripe};
 ghost use Rattle.xt_messages.specs.declared.file.Capability.{Capability};
 ghost use Rattle.xt_messages.specs.declared.file.FileHead.{FileHead};
 ghost use Rattle.xt_messages.specs.declared.file.ObjectVersion.{ObjectVersion};
+ghost use Rattle.xt_messages.specs.declared.record.Record.{Record};
 ghost use Rattle.xt_protocol.specs.LeaseRows.{Proposer, free};
 ghost use Rattle.xt_protocol.specs.SeenBodies.{body_by};
 ghost use Rattle.flease.specs.Moves.{IsSettled, is_free, turn_of};
@@ -60,11 +61,11 @@ pub fn serve_read<B: Bodies>(
 ) -> Result<Turned, StepErr>
     requires clock { now < 2 ^ 62 }
     requires turn { HasTurn file.now.lease now }
-    ensures turned { IfOk result (λ turned. (own : FileHead) (held : List ObjectVersion) →
-        turned ≡ read_answer (ground_at (shown file.now) (B.records bodies.old) own held) ask.now.id
-        (reads (ground_at (shown file.now) (B.records bodies.old) own held) file.now.lead.primary
-        ask.now.op)) }
-    ensures reads { ReadsOnly B.records B.fault_count bodies.old bodies.new (fault_of result) }
+    ensures turned { IfOk result (λ turned. (records : List Record) → B.agrees bodies.new records →
+        (own : FileHead) (held : List ObjectVersion) →
+        turned ≡ read_answer (ground_at (shown file.now) records own held) ask.now.id
+        (reads (ground_at (shown file.now) records own held) file.now.lead.primary ask.now.op)) }
+    ensures reads { ReadsOnly B.agrees B.fault_count bodies.old bodies.new (fault_of result) }
 {
     let Some(turn) = file.lease.turn(now) else {
         unreachable!()
@@ -153,10 +154,11 @@ fn serve_write<B: Bodies>(
     requires turn { HasTurn file.old.lease now }
     requires stored { IsStored file.old.lead.location }
     requires fits { FitsOp ask.op }
-    ensures row { IfOk result (λ turned. is_read ask.op ≡ false →
-        IsRowBy (λ site s. rows.serve_ask site s ask) now (body_by (B.records bodies.old))
-        (shown file.old) (shown file.new) turned) }
-    ensures reads { ReadsOnly B.records B.fault_count bodies.old bodies.new (fault_of result) }
+    ensures row { IfOk result (λ turned. (records : List Record) → B.agrees bodies.new records →
+        is_read ask.op ≡ false →
+        IsRowBy (λ site s. rows.serve_ask site s ask) now (body_by records) (shown file.old)
+        (shown file.new) turned) }
+    ensures reads { ReadsOnly B.agrees B.fault_count bodies.old bodies.new (fault_of result) }
 {
     let Some(turn) = file.lease.turn(now) else {
         unreachable!()
@@ -182,10 +184,10 @@ fn serve_ask<B: Bodies>(
     requires turn { HasTurn file.old.lease now }
     requires stored { IsStored file.old.lead.location }
     requires fits { FitsOp ask.op }
-    ensures row { IfOk result (λ turned.
-        IsRowBy (λ site s. rows.serve_ask site s ask) now (body_by (B.records bodies.old))
-        (shown file.old) (shown file.new) turned) }
-    ensures reads { ReadsOnly B.records B.fault_count bodies.old bodies.new (fault_of result) }
+    ensures row { IfOk result (λ turned. (records : List Record) → B.agrees bodies.new records →
+        IsRowBy (λ site s. rows.serve_ask site s ask) now (body_by records) (shown file.old)
+        (shown file.new) turned) }
+    ensures reads { ReadsOnly B.agrees B.fault_count bodies.old bodies.new (fault_of result) }
 {
     if !is_read(&ask.op) {
         return serve_write(file, bodies, now, ask);
@@ -213,10 +215,10 @@ fn ask_rows<B: Bodies>(
     requires settled { IsSettled file.old.lease now }
     requires stored { IsStored file.old.lead.location }
     requires fits { FitsOp ask.op }
-    ensures row { IfOk result (λ turned.
-        IsRowBy (λ site s. rows.ask_rows site s ask) now (body_by (B.records bodies.old))
-        (shown file.old) (shown file.new) turned) }
-    ensures reads { ReadsOnly B.records B.fault_count bodies.old bodies.new (fault_of result) }
+    ensures row { IfOk result (λ turned. (records : List Record) → B.agrees bodies.new records →
+        IsRowBy (λ site s. rows.ask_rows site s ask) now (body_by records) (shown file.old)
+        (shown file.new) turned) }
+    ensures reads { ReadsOnly B.agrees B.fault_count bodies.old bodies.new (fault_of result) }
 {
     if file.asks.has(ask.id) {
         return Ok(quiet(file.alloc));
@@ -259,10 +261,10 @@ fn let_in<B: Bodies>(
     requires settled { IsSettled file.old.lease now }
     requires stripe { FitsStripe capability.now.location.stripe }
     requires fits { FitsOp op.now }
-    ensures row { IfOk result (λ turned.
+    ensures row { IfOk result (λ turned. (records : List Record) → B.agrees bodies.new records →
         IsRowBy (λ site s. rows.ask_let_in site s id capability.now op.now None) now
-        (body_by (B.records bodies.old)) (shown file.old) (shown file.new) turned) }
-    ensures reads { ReadsOnly B.records B.fault_count bodies.old bodies.new (fault_of result) }
+        (body_by records) (shown file.old) (shown file.new) turned) }
+    ensures reads { ReadsOnly B.agrees B.fault_count bodies.old bodies.new (fault_of result) }
 {
     let asked = op.copy(file.alloc)?;
     let ask = waiting_ask(file.awake.times(), now, id, capability.epoch, asked);
@@ -286,11 +288,12 @@ pub fn handle_ask<B: Bodies>(
     requires settled { IsSettled file.old.lease now }
     requires stripe { FitsStripe capability.now.location.stripe }
     requires fits { FitsOp op.now }
-    ensures row { IfOk result (λ turned. (test : Capability → Bool) → test capability.now ≡ sealed →
+    ensures row { IfOk result (λ turned. (records : List Record) → B.agrees bodies.new records →
+        (test : Capability → Bool) → test capability.now ≡ sealed →
         IsStep (λ site s. rows.handle_ask site s id capability.now op.now)
-        (site_at file.old.awake now test (body_by (B.records bodies.old))) (shown file.old)
-        (shown file.new) turned) }
-    ensures reads { ReadsOnly B.records B.fault_count bodies.old bodies.new (fault_of result) }
+        (site_at file.old.awake now test (body_by records)) (shown file.old) (shown file.new)
+        turned) }
+    ensures reads { ReadsOnly B.agrees B.fault_count bodies.old bodies.new (fault_of result) }
 {
     let (alloc, node, own) = (file.alloc, file.awake.node(), file.replica.file());
     let stored = file.lead.location();

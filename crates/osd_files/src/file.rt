@@ -1,5 +1,6 @@
-ghost use Rattle.std.specs.Prelude.{◌≡◌, ◌<◌, ◌^◌, ◌++◌, Bool, IfOk, OnOk};
+ghost use Rattle.std.specs.Prelude.{◌≡◌, ◌<◌, ◌^◌, ◌++◌, List, Bool, IfOk, OnOk};
 ghost use Rattle.xt_messages.specs.Limits.{FitsPayload};
+ghost use Rattle.xt_messages.specs.declared.record.Record.{Record};
 ghost use Rattle.xt_protocol.specs.SeenBodies.{body_by};
 ghost use Rattle.object_versions.specs.KeptBodies.{fault_of, ReadsOnly};
 ghost use Rattle.xt_protocol.specs.FileStates.{file_from};
@@ -74,10 +75,10 @@ impl OsdFile {
     ) -> Result<Turned, StepErr>
         requires clock { now < 2 ^ 62 }
         requires fits { FitsPayload payload.now }
-        ensures row { IfOk result (λ turned.
+        ensures row { IfOk result (λ turned. (records : List Record) → B.agrees bodies.new records →
             IsRowOn (λ site s. rows.step_of_file site s from payload.now) payload.now sealed now
-            (body_by (B.records bodies.old)) self.old self.new turned) }
-        ensures reads { ReadsOnly B.records B.fault_count bodies.old bodies.new (fault_of result) }
+            (body_by records) self.old self.new turned) }
+        ensures reads { ReadsOnly B.agrees B.fault_count bodies.old bodies.new (fault_of result) }
     {
         match step_of_file(&mut self.parts, bodies, now, sealed, from, payload) {
             Ok(turned) => Ok(turned),

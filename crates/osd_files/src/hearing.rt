@@ -1,5 +1,6 @@
 ghost use Rattle.std.specs.Prelude.{◌≡◌, [], ℕ, List, true, IfOk, OnErr};
 ghost use Rattle.xt_messages.specs.Limits.{FitsPayload};
+ghost use Rattle.xt_messages.specs.declared.record.Record.{Record};
 ghost use Rattle.xt_protocol.specs.Primaries.{if_any};
 ghost use Rattle.xt_protocol.specs.ReplicaRows.{kept_after};
 ghost use Rattle.xt_protocol.specs.FileSteps as rows;
@@ -130,10 +131,11 @@ pub fn fetch_comes<B: Bodies>(
     object: u64,
     version: &Stamp,
 ) -> Result<Turned, StepErr>
-    ensures row { IfOk result (λ turned. (now : ℕ) →
-        IsRowBy (λ site s. fetch_row site s from epoch.now object version.now) now
-        (body_by (B.records bodies.old)) (shown file.now) (shown file.now) turned) }
-    ensures reads { ReadsOnly B.records B.fault_count bodies.old bodies.new (fault_of result) }
+    ensures row { IfOk result (λ turned. (records : List Record) → B.agrees bodies.new records →
+        (now : ℕ) →
+        IsRowBy (λ site s. fetch_row site s from epoch.now object version.now) now (body_by records)
+        (shown file.now) (shown file.now) turned) }
+    ensures reads { ReadsOnly B.agrees B.fault_count bodies.old bodies.new (fault_of result) }
 {
     let (alloc, node, id) = (file.alloc, file.awake.node(), file.replica.file());
     let held = file.replica.held();

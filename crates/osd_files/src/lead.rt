@@ -11,6 +11,7 @@ ghost use Rattle.std.specs.Option.{option_map};
 ghost use Rattle.xt_messages.specs.Limits.{FitsOp};
 ghost use Rattle.xt_messages.specs.declared.file.FileHead.{FileHead};
 ghost use Rattle.xt_messages.specs.declared.file.ObjectVersion.{ObjectVersion};
+ghost use Rattle.xt_messages.specs.declared.record.Record.{Record};
 ghost use Rattle.object_versions.specs.Rising.{HeadRises};
 ghost use Rattle.object_versions.specs.KeptBodies.{fault_of, ReadsOnly};
 ghost use Rattle.peer_searches.specs.Sound.{AreSound};
@@ -281,10 +282,10 @@ impl Lead {
         op: &Op,
     ) -> Result<Option<Reply>, StepErr>
         requires { turn.now.node ≡ self.now.node }
-        ensures value { IfOk result (λ answer. (own : FileHead) (held : List ObjectVersion) →
-            answer ≡ reads (ground (place_of self.now) (B.records bodies.old) own held)
-            self.now.primary op.now) }
-        ensures reads { ReadsOnly B.records B.fault_count bodies.old bodies.new (fault_of result) }
+        ensures value { IfOk result (λ answer. (records : List Record) → B.agrees bodies.new records →
+            (own : FileHead) (held : List ObjectVersion) →
+            answer ≡ reads (ground (place_of self.now) records own held) self.now.primary op.now) }
+        ensures reads { ReadsOnly B.agrees B.fault_count bodies.old bodies.new (fault_of result) }
     {
         match &self.listed {
             Some(listed) => listed.primary.read(turn, bodies, op),
@@ -305,16 +306,17 @@ impl Lead {
         requires turn { turn.now.node ≡ self.old.node }
         requires stored { IsStored self.old.location }
         requires fits { FitsOp op.now }
-        ensures value { IfOk result (λ led. (own : FileHead) (held : List ObjectVersion) →
+        ensures value { IfOk result (λ led. (records : List Record) → B.agrees bodies.new records →
+            (own : FileHead) (held : List ObjectVersion) →
             option_map (λ turned. record { primary = self.new.primary; turned = turned }) led ≡
-            writes (ground (place_of self.old) (B.records bodies.old) own held) self.old.primary id
+            writes (ground (place_of self.old) records own held) self.old.primary id
             epoch op.now) }
         ensures kept { IfOk result (λ led. self.new ≡
             record self.old { primary = self.new.primary }) }
         ensures peers { peers_under self.new.primary.tenure ≡ peers_under self.old.primary.tenure }
         ensures waits { IfOk result (λ led. IfNone led (self.new ≡ self.old)) }
         ensures same { OnErr result (self.new ≡ self.old) }
-        ensures reads { ReadsOnly B.records B.fault_count bodies.old bodies.new (fault_of result) }
+        ensures reads { ReadsOnly B.agrees B.fault_count bodies.old bodies.new (fault_of result) }
     {
         match &mut self.listed {
             Some(listed) => listed.primary.issue(turn, bodies, id, epoch, op),
@@ -339,19 +341,19 @@ impl Lead {
         requires own { HeadRises own.now }
         requires sound { AreSound own.now.versions (peers_under self.old.primary.tenure)
             searches.old }
-        ensures state { IfOk result (λ led. self.new ≡
-            record self.old {
-              primary = (hears (ground (place_of self.old) (B.records bodies.old) own.now held.now)
+        ensures state { IfOk result (λ led. (records : List Record) → B.agrees bodies.new records →
+            self.new ≡ record self.old {
+              primary = (hears (ground (place_of self.old) records own.now held.now)
                   self.old.primary from payload.now).primary;
             }) }
-        ensures led { IfOk result (λ led. led ≡
-            (hears (ground (place_of self.old) (B.records bodies.old) own.now held.now)
+        ensures led { IfOk result (λ led. (records : List Record) → B.agrees bodies.new records →
+            led ≡ (hears (ground (place_of self.old) records own.now held.now)
             self.old.primary from payload.now).turned) }
         ensures idle { OnErr result (self.new ≡
             record self.old { primary = rows.idle self.old.primary }) }
         ensures sound { AreSound own.now.versions (peers_under self.new.primary.tenure)
             searches.new }
-        ensures reads { ReadsOnly B.records B.fault_count bodies.old bodies.new (fault_of result) }
+        ensures reads { ReadsOnly B.agrees B.fault_count bodies.old bodies.new (fault_of result) }
     {
         match &mut self.listed {
             Some(listed) => {

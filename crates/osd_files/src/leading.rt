@@ -1,5 +1,6 @@
-ghost use Rattle.std.specs.Prelude.{◌≡◌, ◌<◌, ◌^◌, IfOk, is_some};
+ghost use Rattle.std.specs.Prelude.{◌≡◌, ◌<◌, ◌^◌, List, IfOk, is_some};
 ghost use Rattle.std.specs.List.{AllByRecursion};
+ghost use Rattle.xt_messages.specs.declared.record.Record.{Record};
 ghost use Rattle.xt_protocol.specs.SeenBodies.{body_by};
 ghost use Rattle.flease.specs.Moves.{IsSettled, turn_of};
 ghost use Rattle.object_versions.specs.KeptBodies.{fault_of, ReadsOnly};
@@ -34,10 +35,10 @@ fn primary_led<B: Bodies>(
     requires clock { now < 2 ^ 62 }
     requires turn { HasTurn file.old.lease now }
     requires stored { IsStored file.old.lead.location }
-    ensures row { IfOk result (λ turned.
+    ensures row { IfOk result (λ turned. (records : List Record) → B.agrees bodies.new records →
         IsRowBy (λ site s. leads_to s (hears (ground_of site s) s.primary from content.now)) now
-        (body_by (B.records bodies.old)) (shown file.old) (shown file.new) turned) }
-    ensures reads { ReadsOnly B.records B.fault_count bodies.old bodies.new (fault_of result) }
+        (body_by records) (shown file.old) (shown file.new) turned) }
+    ensures reads { ReadsOnly B.agrees B.fault_count bodies.old bodies.new (fault_of result) }
 {
     stay_in_range(file.awake.node());
     let Some(turn) = file.lease.turn(now) else {
@@ -80,10 +81,10 @@ pub fn primary_hears<B: Bodies>(
     requires settled { IsSettled file.old.lease now }
     requires stored { ListUnder file.old.lease file.old.lead.location }
     requires fits { AllByRecursion IsWithinLimits file.old.asks.waiting }
-    ensures row { IfOk result (λ turned.
-        IsRowBy (λ site s. rows.primary_hears site s s.lease from content.now) now
-        (body_by (B.records bodies.old)) (shown file.old) (shown file.new) turned) }
-    ensures reads { ReadsOnly B.records B.fault_count bodies.old bodies.new (fault_of result) }
+    ensures row { IfOk result (λ turned. (records : List Record) → B.agrees bodies.new records →
+        IsRowBy (λ site s. rows.primary_hears site s s.lease from content.now) now (body_by records)
+        (shown file.old) (shown file.new) turned) }
+    ensures reads { ReadsOnly B.agrees B.fault_count bodies.old bodies.new (fault_of result) }
 {
     if !has_turn(&file.lease, now) {
         return Ok(quiet(file.alloc));

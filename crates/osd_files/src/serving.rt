@@ -1,6 +1,7 @@
-ghost use Rattle.std.specs.Prelude.{◌≡◌, ◌<◌, ◌^◌, ◌&&◌, false, not, IfOk, is_some};
+ghost use Rattle.std.specs.Prelude.{◌≡◌, ◌<◌, ◌^◌, ◌&&◌, List, false, not, IfOk, is_some};
 ghost use Rattle.std.specs.List.{AllByRecursion};
 ghost use Rattle.xt_messages.specs.Limits.{FitsOp};
+ghost use Rattle.xt_messages.specs.declared.record.Record.{Record};
 ghost use Rattle.object_versions.specs.KeptBodies.{fault_of, ReadsOnly};
 ghost use Rattle.osd_invariants.specs.Sound.{IsStored};
 ghost use Rattle.osd_invariants.specs.OpenAsks.{IsWithinLimits};
@@ -30,10 +31,10 @@ fn serve_waiting_write<B: Bodies>(
     requires turn { HasTurn file.old.lease now }
     requires stored { IsStored file.old.lead.location }
     requires fits { FitsOp ask.op }
-    ensures served { IfOk result (λ turned. is_read ask.op ≡ false →
-        is_some file.old.asks.issued ≡ false →
-        ServesOne ask (B.records bodies.old) (shown file.old) (shown file.new) turned) }
-    ensures reads { ReadsOnly B.records B.fault_count bodies.old bodies.new (fault_of result) }
+    ensures served { IfOk result (λ turned. (records : List Record) → B.agrees bodies.new records →
+        is_read ask.op ≡ false → is_some file.old.asks.issued ≡ false →
+        ServesOne ask records (shown file.old) (shown file.new) turned) }
+    ensures reads { ReadsOnly B.agrees B.fault_count bodies.old bodies.new (fault_of result) }
 {
     let Some(turn) = file.lease.turn(now) else {
         unreachable!()
@@ -62,9 +63,9 @@ fn serve_one<B: Bodies>(
     requires turn { HasTurn file.old.lease now }
     requires stored { IsStored file.old.lead.location }
     requires fits { FitsOp ask.op }
-    ensures served { IfOk result (λ turned.
-        ServesOne ask (B.records bodies.old) (shown file.old) (shown file.new) turned) }
-    ensures reads { ReadsOnly B.records B.fault_count bodies.old bodies.new (fault_of result) }
+    ensures served { IfOk result (λ turned. (records : List Record) → B.agrees bodies.new records →
+        ServesOne ask records (shown file.old) (shown file.new) turned) }
+    ensures reads { ReadsOnly B.agrees B.fault_count bodies.old bodies.new (fault_of result) }
 {
     if is_read(&ask.op) {
         return serve_read(file, bodies, now, &ask);
@@ -88,9 +89,9 @@ fn serve_next<B: Bodies>(
     requires turn { HasTurn file.old.lease now }
     requires stored { IsStored file.old.lead.location }
     requires fits { FitsOp ask.op }
-    ensures served { IfOk result (λ turned.
-        ServesNext ask served (B.records bodies.old) (shown file.old) (shown file.new) turned) }
-    ensures reads { ReadsOnly B.records B.fault_count bodies.old bodies.new (fault_of result) }
+    ensures served { IfOk result (λ turned. (records : List Record) → B.agrees bodies.new records →
+        ServesNext ask served records (shown file.old) (shown file.new) turned) }
+    ensures reads { ReadsOnly B.agrees B.fault_count bodies.old bodies.new (fault_of result) }
 {
     let one = serve_one(file, bodies, now, ask);
     join_rest(served, one)
@@ -102,9 +103,9 @@ fn serve_all<B: Bodies>(file: &mut Parts, bodies: &mut B, now: u64) -> Result<Tu
     requires turn { HasTurn file.old.lease now }
     requires stored { IsStored file.old.lead.location }
     requires fits { AllByRecursion IsWithinLimits file.old.asks.waiting }
-    ensures served { IfOk result (λ turned.
-        ServesAll (B.records bodies.old) (shown file.old) (shown file.new) turned) }
-    ensures reads { ReadsOnly B.records B.fault_count bodies.old bodies.new (fault_of result) }
+    ensures served { IfOk result (λ turned. (records : List Record) → B.agrees bodies.new records →
+        ServesAll records (shown file.old) (shown file.new) turned) }
+    ensures reads { ReadsOnly B.agrees B.fault_count bodies.old bodies.new (fault_of result) }
 {
     let waiting = file.asks.take_waiting(file.alloc);
     let mut served = quiet(file.alloc);
@@ -143,9 +144,9 @@ pub fn asks_follow<B: Bodies>(
     requires turn { HasTurn file.old.lease now }
     requires stored { IsStored file.old.lead.location }
     requires fits { AllByRecursion IsWithinLimits file.old.asks.waiting }
-    ensures followed { IfOk result (λ turned.
-        AsksFollow was_ready (B.records bodies.old) (shown file.old) (shown file.new) turned) }
-    ensures reads { ReadsOnly B.records B.fault_count bodies.old bodies.new (fault_of result) }
+    ensures followed { IfOk result (λ turned. (records : List Record) → B.agrees bodies.new records →
+        AsksFollow was_ready records (shown file.old) (shown file.new) turned) }
+    ensures reads { ReadsOnly B.agrees B.fault_count bodies.old bodies.new (fault_of result) }
 {
     if becomes_ready(&file.lead, was_ready) {
         return serve_all(file, bodies, now);

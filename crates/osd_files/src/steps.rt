@@ -1,6 +1,7 @@
-ghost use Rattle.std.specs.Prelude.{◌≡◌, ◌<◌, ◌^◌, Bool, IfOk};
+ghost use Rattle.std.specs.Prelude.{◌≡◌, ◌<◌, ◌^◌, List, Bool, IfOk};
 ghost use Rattle.xt_messages.specs.Limits.{FitsCapability, FitsOp, FitsOpId, FitsPayload};
 ghost use Rattle.xt_messages.specs.declared.file.Capability.{Capability};
+ghost use Rattle.xt_messages.specs.declared.record.Record.{Record};
 ghost use Rattle.xt_protocol.specs.SeenBodies.{body_by};
 ghost use Rattle.flease.specs.Moves.{IsSettled};
 ghost use Rattle.object_versions.specs.KeptBodies.{fault_of, ReadsOnly};
@@ -37,12 +38,13 @@ fn ask_comes<B: Bodies>(
     requires who { FitsOpId id }
     requires seal { FitsCapability capability.now }
     requires fits { FitsOp op.now }
-    ensures row { IfOk result (λ turned. (test : Capability → Bool) → test capability.now ≡ sealed →
+    ensures row { IfOk result (λ turned. (records : List Record) → B.agrees bodies.new records →
+        (test : Capability → Bool) → test capability.now ≡ sealed →
         IsStep (λ site s.
         rows.ask_comes site s capability.now.location.kind id capability.now op.now)
-        (site_at file.old.awake now test (body_by (B.records bodies.old))) (shown file.old)
-        (shown file.new) turned) }
-    ensures reads { ReadsOnly B.records B.fault_count bodies.old bodies.new (fault_of result) }
+        (site_at file.old.awake now test (body_by records)) (shown file.old) (shown file.new)
+        turned) }
+    ensures reads { ReadsOnly B.agrees B.fault_count bodies.old bodies.new (fault_of result) }
 {
     match capability.location.kind {
         Kind::Replicated => handle_ask(file, bodies, now, sealed, id, capability, op),
@@ -63,10 +65,10 @@ fn message_comes<B: Bodies>(
     requires settled { IsSettled file.old.lease now }
     requires fits { FitsPayload content.now }
     requires whole { IsWhole (shown file.old) }
-    ensures row { IfOk result (λ turned.
+    ensures row { IfOk result (λ turned. (records : List Record) → B.agrees bodies.new records →
         IsRowOn (λ site s. rows.message_comes site s from content.now) content.now sealed now
-        (body_by (B.records bodies.old)) (shown file.old) (shown file.new) turned) }
-    ensures reads { ReadsOnly B.records B.fault_count bodies.old bodies.new (fault_of result) }
+        (body_by records) (shown file.old) (shown file.new) turned) }
+    ensures reads { ReadsOnly B.agrees B.fault_count bodies.old bodies.new (fault_of result) }
 {
     match content {
         Payload::Ask {
@@ -112,10 +114,10 @@ pub fn step_of_file<B: Bodies>(
     requires clock { now < 2 ^ 62 }
     requires fits { FitsPayload content.now }
     requires whole { IsWhole (shown file.old) }
-    ensures row { IfOk result (λ turned.
+    ensures row { IfOk result (λ turned. (records : List Record) → B.agrees bodies.new records →
         IsRowOn (λ site s. rows.step_of_file site s from content.now) content.now sealed now
-        (body_by (B.records bodies.old)) (shown file.old) (shown file.new) turned) }
-    ensures reads { ReadsOnly B.records B.fault_count bodies.old bodies.new (fault_of result) }
+        (body_by records) (shown file.old) (shown file.new) turned) }
+    ensures reads { ReadsOnly B.agrees B.fault_count bodies.old bodies.new (fault_of result) }
 {
     let overdue = expire(file, now)?;
     let rest = message_comes(file, bodies, now, sealed, from, content);

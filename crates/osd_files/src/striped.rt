@@ -1,7 +1,8 @@
-ghost use Rattle.std.specs.Prelude.{◌≡◌, Bool, IfOk, IfSome};
+ghost use Rattle.std.specs.Prelude.{◌≡◌, List, Bool, IfOk, IfSome};
 ghost use Rattle.xt_messages.specs.Limits.{FitsCapability, FitsHead, FitsOp, FitsOpId};
 ghost use Rattle.xt_messages.specs.declared.file.Capability.{Capability};
 ghost use Rattle.xt_messages.specs.declared.file.Kind.TheVariants as kind;
+ghost use Rattle.xt_messages.specs.declared.record.Record.{Record};
 ghost use Rattle.xt_protocol.specs.SeenBodies.{body_by};
 ghost use Rattle.xt_protocol.specs.FileSteps as steps;
 ghost use Rattle.xt_protocol.specs.PlainRows as plain;
@@ -75,12 +76,12 @@ fn member_acts<B: Bodies>(
     requires who { FitsOpId id }
     requires seal { FitsCapability capability.now }
     requires fits { FitsOp op.now }
-    ensures row { IfOk result (λ acted. (test : Capability → Bool) → test capability.now ≡ sealed →
-        acted ≡
-        rows.handle_striped (site_at file.now.awake now test (body_by (B.records bodies.old)))
+    ensures row { IfOk result (λ acted. (records : List Record) → B.agrees bodies.new records →
+        (test : Capability → Bool) → test capability.now ≡ sealed →
+        acted ≡ rows.handle_striped (site_at file.now.awake now test (body_by records))
         (shown file.now).state.kept id capability.now op.now) }
     ensures notable { IfOk result (λ acted. IfSome acted.rec (IsNotable file.now.replica)) }
-    ensures reads { ReadsOnly B.records B.fault_count bodies.old bodies.new (fault_of result) }
+    ensures reads { ReadsOnly B.agrees B.fault_count bodies.old bodies.new (fault_of result) }
 {
     let (own, stored) = (file.replica.file(), file.lead.location());
     match striped_refusal_of(now, sealed, &stored, capability, op) {
@@ -106,11 +107,12 @@ pub fn handle_striped<B: Bodies>(
     requires who { FitsOpId id }
     requires seal { FitsCapability capability.now }
     requires fits { FitsOp op.now }
-    ensures row { IfOk result (λ turned. (test : Capability → Bool) → test capability.now ≡ sealed →
+    ensures row { IfOk result (λ turned. (records : List Record) → B.agrees bodies.new records →
+        (test : Capability → Bool) → test capability.now ≡ sealed →
         IsStep (λ site s. steps.ask_comes site s kind.Striped id capability.now op.now)
-        (site_at file.old.awake now test (body_by (B.records bodies.old))) (shown file.old)
-        (shown file.new) turned) }
-    ensures reads { ReadsOnly B.records B.fault_count bodies.old bodies.new (fault_of result) }
+        (site_at file.old.awake now test (body_by records)) (shown file.old) (shown file.new)
+        turned) }
+    ensures reads { ReadsOnly B.agrees B.fault_count bodies.old bodies.new (fault_of result) }
 {
     let acted = member_acts(file, bodies, now, sealed, id, capability, op)?;
     let (alloc, node) = (file.alloc, file.awake.node());

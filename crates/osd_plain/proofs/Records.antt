@@ -1,5 +1,5 @@
 -- a member of a striped file records updates alone
-use Rattle.std.proofs.Common.{ℕ, refl, Bool, true, false, List}
+use Rattle.std.proofs.Common.{◌≡◌, ℕ, Bool, true, false, List, sym, subst}
 use Rattle.std.specs.Prelude.{Option, Some, None, cond, ◌*◌, length}
 use Rattle.xt_base.specs.declared.ids.OpId.{OpId}
 use Rattle.xt_base.specs.declared.ids.Stamp.{Stamp}
@@ -13,7 +13,7 @@ use Rattle.xt_protocol.specs.declared.states.PlainActed.{PlainActed}
 use Rattle.xt_protocol.specs.Heads.{head_after}
 use Rattle.xt_protocol.specs.ReplicaRows.{head_fits}
 use Rattle.xt_protocol.specs.Writes.{WriteStanding, repeated, older, turned_away, fresh, standing}
-use Rattle.xt_protocol.specs.PlainRows.{PlainFile, plain_refusal, next_update, write_kept, write_stands, serve_plain_write, served, refused_or, plain_step}
+use Rattle.xt_protocol.specs.PlainRows.{PlainFile, plain_refusal, next_update, write_kept, write_stands, served, refused_or, plain_step}
 use Rattle.osd_plain.specs.Records.{IsUpdateIfAny}
 
 of_two : (b : Bool) (x y : PlainActed) → IsUpdateIfAny x.rec → IsUpdateIfAny y.rec → IsUpdateIfAny (cond b x y).rec
@@ -43,7 +43,12 @@ of_refusal : (o : Option Denial) (row : PlainActed) → IsUpdateIfAny row.rec �
 of_refusal None row is = is
 of_refusal (Some why) row is = tt
 
-pub updates_alone : (p : PlainFile) (body : ℕ → Stamp → List ℕ) (id : OpId) (epoch : ℕ) (location : Location) (asked : Op) → IsUpdateIfAny (plain_step p body id epoch location asked).rec
+updates_alone : (p : PlainFile) (body : ℕ → Stamp → List ℕ) (id : OpId) (epoch : ℕ) (location : Location) (asked : Op) → IsUpdateIfAny (plain_step p body id epoch location asked).rec
 unfolding plain_step
 updates_alone p body id epoch location asked =
     of_refusal (plain_refusal location.members p.node asked) (served p body id epoch location asked) (of_op p body id epoch location asked)
+
+pub updated_alone : (p : PlainFile) (body : ℕ → Stamp → List ℕ) (id : OpId) (epoch : ℕ) (location : Location) (asked : Op) (acted : PlainActed)
+    → acted ≡ plain_step p body id epoch location asked → IsUpdateIfAny acted.rec
+updated_alone p body id epoch location asked acted is =
+    subst (λ (a : PlainActed). IsUpdateIfAny a.rec) (sym is) (updates_alone p body id epoch location asked)

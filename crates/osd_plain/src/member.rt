@@ -1,4 +1,5 @@
-ghost use Rattle.std.specs.Prelude.{◌≡◌, ◌≤◌, false, Some, IfOk};
+ghost use Rattle.std.specs.Prelude.{◌≡◌, ◌≤◌, false, Some, IfOk, List};
+ghost use Rattle.xt_messages.specs.declared.record.Record.{Record};
 ghost use Rattle.xt_base.specs.FieldLimits.{IsCount};
 ghost use Rattle.xt_messages.specs.Limits.{FitsLocation, FitsOp, FitsOpId};
 ghost use Rattle.xt_protocol.specs.SeenBodies.{body_by};
@@ -67,10 +68,10 @@ impl<'a> Member<'a> {
         requires truncation { IsCount epoch }
         requires list { FitsLocation location.now }
         requires operation { FitsOp op.now }
-        ensures row { IfOk result (λ acted. acted ≡
-            plain_step self.now (body_by (B.records bodies.old) self.now.file) id epoch location.now
+        ensures row { IfOk result (λ acted. (records : List Record) → B.agrees bodies.new records →
+            acted ≡ plain_step self.now (body_by records self.now.file) id epoch location.now
             op.now) }
-        ensures reads { ReadsOnly B.records B.fault_count bodies.old bodies.new (fault_of result) }
+        ensures reads { ReadsOnly B.agrees B.fault_count bodies.old bodies.new (fault_of result) }
     {
         match refusal(&location.members, self.node, op) {
             Some(rule) => Ok(only(Reply::Denied { rule })),
@@ -89,10 +90,10 @@ impl<'a> Member<'a> {
     ) -> Result<PlainActed, StepErr>
         requires some { 1024 ≤ location.now.stripe }
         requires operation { FitsOp op.now }
-        ensures row { IfOk result (λ acted. acted ≡
-            rows.served self.now (body_by (B.records bodies.old) self.now.file) id epoch
-            location.now op.now) }
-        ensures reads { ReadsOnly B.records B.fault_count bodies.old bodies.new (fault_of result) }
+        ensures row { IfOk result (λ acted. (records : List Record) → B.agrees bodies.new records →
+            acted ≡ rows.served self.now (body_by records self.now.file) id epoch location.now
+            op.now) }
+        ensures reads { ReadsOnly B.agrees B.fault_count bodies.old bodies.new (fault_of result) }
     {
         match op {
             Op::Read { object, at, len } => {
@@ -115,10 +116,10 @@ impl<'a> Member<'a> {
     ) -> Result<PlainActed, StepErr>
         requires some { 1024 ≤ location.now.stripe }
         requires operation { FitsOp op.now }
-        ensures row { IfOk result (λ acted. acted ≡
-            rows.serve_plain_write self.now (body_by (B.records bodies.old) self.now.file) id epoch
+        ensures row { IfOk result (λ acted. (records : List Record) → B.agrees bodies.new records →
+            acted ≡ rows.serve_plain_write self.now (body_by records self.now.file) id epoch
             location.now op.now) }
-        ensures reads { ReadsOnly B.records B.fault_count bodies.old bodies.new (fault_of result) }
+        ensures reads { ReadsOnly B.agrees B.fault_count bodies.old bodies.new (fault_of result) }
     {
         let width = location.members.as_slice().len() as u64;
         match standing_of(OBJECTS * width, location.stripe, self.head, id, epoch, op) {
@@ -144,11 +145,11 @@ impl<'a> Member<'a> {
     ) -> Result<PlainActed, StepErr>
         requires some { 1024 ≤ stripe }
         requires operation { FitsOp op.now }
-        ensures row { IfOk result (λ acted. acted ≡
-            rows.write_kept self.now
-            (rows.next_update stripe (body_by (B.records bodies.old) self.now.file) self.now.head id
-            epoch op.now)) }
-        ensures reads { ReadsOnly B.records B.fault_count bodies.old bodies.new (fault_of result) }
+        ensures row { IfOk result (λ acted. (records : List Record) → B.agrees bodies.new records →
+            acted ≡ rows.write_kept self.now
+            (rows.next_update stripe (body_by records self.now.file) self.now.head id epoch
+            op.now)) }
+        ensures reads { ReadsOnly B.agrees B.fault_count bodies.old bodies.new (fault_of result) }
     {
         let (file, head) = (&self.file, self.head);
         match next_update(bodies, self.alloc, file, stripe, head, id, epoch, op)? {

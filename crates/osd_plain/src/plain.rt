@@ -1,4 +1,5 @@
-ghost use Rattle.std.specs.Prelude.{◌≡◌, false, IfOk, OnOk, OnErr};
+ghost use Rattle.std.specs.Prelude.{◌≡◌, false, IfOk, OnOk, OnErr, List};
+ghost use Rattle.xt_messages.specs.declared.record.Record.{Record};
 ghost use Rattle.xt_base.specs.FieldLimits.{IsCount};
 ghost use Rattle.xt_messages.specs.Limits.{FitsLocation, FitsOp, FitsOpId};
 ghost use Rattle.xt_protocol.specs.SeenBodies.{body_by};
@@ -59,7 +60,6 @@ impl Plain {
     }
 
     /// A client's operation on the file, under its capability's truncate epoch and list. The range stays in its object.
-    #[tactic(auto, using(crate::proofs::Records::updates_alone))]
     pub fn step<B: Bodies>(
         &mut self,
         bodies: &mut B,
@@ -73,12 +73,12 @@ impl Plain {
         requires truncation { IsCount epoch }
         requires list { FitsLocation location.now }
         requires operation { FitsOp op.now }
-        ensures row { IfOk result (λ acted. acted ≡
-            plain_step self.old (body_by (B.records bodies.old) self.old.file) id epoch location.now
+        ensures row { IfOk result (λ acted. (records : List Record) → B.agrees bodies.new records →
+            acted ≡ plain_step self.old (body_by records self.old.file) id epoch location.now
             op.now) }
         ensures kept { IfOk result (λ acted. self.new ≡ plain_after self.old acted.rec) }
         ensures same { OnErr result (self.new ≡ self.old) }
-        ensures reads { ReadsOnly B.records B.fault_count bodies.old bodies.new (fault_of result) }
+        ensures reads { ReadsOnly B.agrees B.fault_count bodies.old bodies.new (fault_of result) }
     {
         let acted = self.member().step(bodies, id, epoch, location, op)?;
         Ok(self.take(acted)?)

@@ -1,4 +1,5 @@
-ghost use Rattle.std.specs.Prelude.{◌≡◌, ◌≤◌, length, IfOk};
+ghost use Rattle.std.specs.Prelude.{◌≡◌, ◌≤◌, length, IfOk, List};
+ghost use Rattle.xt_messages.specs.declared.record.Record.{Record};
 ghost use Rattle.xt_messages.specs.Limits.{FitsOp};
 ghost use Rattle.xt_protocol.specs.SeenBodies.{body_by};
 ghost use Rattle.xt_protocol.specs.Heads.{head_after};
@@ -84,9 +85,9 @@ pub fn serve_read<B: Bodies>(
     len: u32,
 ) -> Result<Reply, StepErr>
     requires { HeadRises head.now }
-    ensures value { IfOk result (λ answer. answer ≡
-        rows.serve_read (body_by (B.records bodies.old) file.now) head.now object at len) }
-    ensures reads { ReadsOnly B.records B.fault_count bodies.old bodies.new (fault_of result) }
+    ensures value { IfOk result (λ answer. (records : List Record) → B.agrees bodies.new records →
+        answer ≡ rows.serve_read (body_by records file.now) head.now object at len) }
+    ensures reads { ReadsOnly B.agrees B.fault_count bodies.old bodies.new (fault_of result) }
 {
     let version = version_of(head.versions.as_slice(), object);
     let body = present_body(bodies, alloc, file, object, version)?;
@@ -112,10 +113,9 @@ pub fn next_update<B: Bodies>(
     requires some { 1024 ≤ stripe }
     requires fits { FitsOp op.now }
     requires rising { HeadRises head.now }
-    ensures value { IfOk result (λ update. update ≡
-        rows.next_update stripe (body_by (B.records bodies.old) file.now) head.now id epoch
-        op.now) }
-    ensures reads { ReadsOnly B.records B.fault_count bodies.old bodies.new (fault_of result) }
+    ensures value { IfOk result (λ update. (records : List Record) → B.agrees bodies.new records →
+        update ≡ rows.next_update stripe (body_by records file.now) head.now id epoch op.now) }
+    ensures reads { ReadsOnly B.agrees B.fault_count bodies.old bodies.new (fault_of result) }
 {
     if head.stamp.count >= COUNTS - 1 {
         return Ok(None);

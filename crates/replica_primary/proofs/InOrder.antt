@@ -1,7 +1,7 @@
 -- what a primary does, as contracts see it: the bodies that are wanted later in their order
-use Rattle.std.proofs.Common.{◌≡◌, ◌∙◌, ◌∷◌, ◌++◌, [], ℕ, Bool, true, false, Option, Some, None, List, refl, ap, sym, subst}
+use Rattle.std.proofs.Common.{◌≡◌, ◌∙◌, ◌∷◌, [], ℕ, Bool, true, false, Option, Some, None, List, refl, ap, sym}
 use Rattle.std.specs.Prelude.{cond, not, nat_lt, reverse}
-use Rattle.std.proofs.lemmas.List.{reverse-append, reverse-reverse}
+use Rattle.std.proofs.lemmas.List.{reverse-append}
 use Rattle.xt_base.specs.declared.TheConstants.{COUNTS}
 use Rattle.xt_base.specs.declared.ids.Epoch.{Epoch}
 use Rattle.xt_base.specs.declared.ids.NodeId.{NodeId}
@@ -24,7 +24,7 @@ use Rattle.xt_protocol.specs.declared.states.Tenure.{Tenure}
 use Rattle.xt_protocol.specs.declared.states.PrimaryState.{PrimaryState}
 use Rattle.xt_protocol.specs.Primaries.{Ground, Led, carries, nodes_of, peer_in, with_node}
 use Rattle.xt_protocol.specs.PrimaryRows.{acked_below, body_missed, body_staged, epoch_above, draw_epoch, hears_ack, hears_in, target_in, with_state}
-use Rattle.xt_protocol.specs.Serving.{reads, wakes, writes, writes_under}
+use Rattle.xt_protocol.specs.Serving.{reads, wakes, writes}
 use Rattle.osd_decisions.specs.Committed.{CommittedUnder}
 use Rattle.replica_primary.specs.declared.moving.Heard.{Heard}
 use Rattle.replica_primary.specs.declared.moving.Heard.TheVariants as heard

@@ -1,11 +1,10 @@
 -- the searches for what peers lack, as a message leaves them
-use Rattle.std.proofs.Common.{◌≡◌, ◌∙◌, ℕ, Bool, true, false, cond, Option, List, [], ◌∷◌, take, None, Some, refl, ap, sym, subst}
+use Rattle.std.proofs.Common.{◌≡◌, ◌∙◌, ℕ, Bool, true, false, cond, Option, List, take, None, Some, refl, ap, sym, subst}
 use Rattle.std.specs.Prelude.{find, not}
 use Rattle.xt_base.specs.declared.ids.NodeId.{NodeId}
 use Rattle.xt_base.specs.declared.ids.Stamp.{Stamp}
 use Rattle.xt_messages.specs.declared.file.ObjectVersion.{ObjectVersion}
 use Rattle.xt_messages.specs.declared.file.FileHead.{FileHead}
-use Rattle.xt_messages.specs.declared.file.Update.{Update}
 use Rattle.xt_protocol.specs.Stamps.{has_version, is_below, with_held}
 use Rattle.xt_protocol.specs.ReplicaRows.{first_missing}
 use Rattle.xt_protocol.specs.declared.states.Peer.{Peer}
@@ -16,7 +15,7 @@ use Rattle.xt_protocol.specs.declared.states.Progress.{Progress}
 use Rattle.xt_protocol.specs.declared.states.Progress.TheVariants as progress
 use Rattle.xt_protocol.specs.declared.states.Tenure.{Tenure}
 use Rattle.xt_protocol.specs.Primaries.{Ground, Led, carries, fed, fed_next, peer_in, with_node, with_peer}
-use Rattle.xt_protocol.specs.PrimaryRows.{acked_below, hears_ack, ack_update, with_state}
+use Rattle.xt_protocol.specs.PrimaryRows.{acked_below, hears_ack, with_state}
 use Rattle.peer_searches.specs.declared.searches.Search.{Search}
 use Rattle.peer_searches.specs.Sound.{AreSound, known_in, known_of, with_search}
 use Rattle.peer_searches.proofs.Set.{gone_on, known_still, let_go}

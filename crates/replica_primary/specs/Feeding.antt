@@ -1,5 +1,5 @@
 -- a peer that is brought to a head
-use Rattle.std.specs.Prelude.{ℕ, ◌≡◌, Bool, true, false, Option, Some, None}
+use Rattle.std.specs.Prelude.{ℕ, ◌≡◌, Bool, true, false, Option, Some}
 use Rattle.xt_messages.specs.declared.file.FileHead.{FileHead}
 use Rattle.xt_protocol.specs.declared.states.PeerState.{PeerState}
 use Rattle.xt_protocol.specs.declared.states.PeerState.TheVariants as peer

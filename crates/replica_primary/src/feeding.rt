@@ -2,6 +2,7 @@ ghost use Rattle.std.specs.Prelude.{◌≡◌, ℕ, List, None, Some, IfOk, IfSo
 ghost use Rattle.xt_messages.specs.declared.file.FileHead.{FileHead};
 ghost use Rattle.xt_protocol.specs.declared.states.Peer.{Peer};
 ghost use Rattle.xt_messages.specs.declared.file.ObjectVersion.{ObjectVersion};
+ghost use Rattle.xt_messages.specs.declared.record.Record.{Record};
 ghost use Rattle.xt_protocol.specs.declared.states.PeerState.TheVariants as peer;
 ghost use Rattle.xt_protocol.specs.Primaries as rows;
 ghost use Rattle.xt_protocol.specs.PrimaryRows.{goes_on, target_in, with_state};
@@ -32,9 +33,9 @@ fn body_seen<B: Bodies>(
     object: u64,
     version: &Stamp,
 ) -> Result<Octets, StepErr>
-    ensures value { IfOk result (λ bytes. bytes ≡
-        body_seen (B.records bodies.old) file.now fetched.now object version.now) }
-    ensures reads { ReadsOnly B.records B.fault_count bodies.old bodies.new (fault_of result) }
+    ensures value { IfOk result (λ bytes. (records : List Record) → B.agrees bodies.new records →
+        bytes ≡ body_seen records file.now fetched.now object version.now) }
+    ensures reads { ReadsOnly B.agrees B.fault_count bodies.old bodies.new (fault_of result) }
 {
     match fetched {
         Some(body) if body.object == object && is_stamp(body.version, *version) => {
@@ -103,10 +104,9 @@ pub fn fed<B: Bodies>(
 ) -> Result<PeerState, StepErr>
     requires { slice_get (head_of target.now).versions found ≡
         first_missing known (head_of target.now).versions }
-    ensures value { IfOk result (λ state. state ≡
-        rows.fed (body_seen (B.records bodies.old) file.now fetched.now) (head_of target.now)
-        known) }
-    ensures reads { ReadsOnly B.records B.fault_count bodies.old bodies.new (fault_of result) }
+    ensures value { IfOk result (λ state. (records : List Record) → B.agrees bodies.new records →
+        state ≡ rows.fed (body_seen records file.now fetched.now) (head_of target.now) known) }
+    ensures reads { ReadsOnly B.agrees B.fault_count bodies.old bodies.new (fault_of result) }
 {
     match target.versions().get(found).copied() {
         Some(ObjectVersion { object, version }) => Ok(PeerState::Feeding {
@@ -196,12 +196,12 @@ fn fed_on<B: Bodies>(
     passed: usize,
 ) -> Result<PeerState, StepErr>
     requires { first_missing known (take passed (head_of target.now).versions) ≡ None }
-    ensures value { IfOk result (λ state. state ≡
-        rows.fed (body_seen (B.records bodies.old) file.now None) (head_of target.now) known) }
+    ensures value { IfOk result (λ state. (records : List Record) → B.agrees bodies.new records →
+        state ≡ rows.fed (body_seen records file.now None) (head_of target.now) known) }
     ensures sound { IfOk result (λ state. (own : FileHead) (peers : List Peer) →
         IsOfOwn own target.now → AreSound own.versions peers searches.old →
         AreSound own.versions (rows.with_peer peers node state) searches.new) }
-    ensures reads { ReadsOnly B.records B.fault_count bodies.old bodies.new (fault_of result) }
+    ensures reads { ReadsOnly B.agrees B.fault_count bodies.old bodies.new (fault_of result) }
 {
     let found = first_unknown(&known, target.versions(), passed);
     searches.put(Search {
@@ -224,12 +224,13 @@ pub fn feeds_on<B: Bodies>(
     known: HeldSet,
 ) -> Result<Turned, StepErr>
     requires { AreSound own.now.versions tenure.old.peers searches.old }
-    ensures value { IfOk result (λ turned. (learnt : ℕ) (held : List ObjectVersion) →
+    ensures value { IfOk result (λ turned. (records : List Record) → B.agrees bodies.new records →
+        (learnt : ℕ) (held : List ObjectVersion) →
         goes_on learnt tenure.new turned ≡
-        feeds_any (ground place.now (B.records bodies.old) own.now held) learnt tenure.old
+        feeds_any (ground place.now records own.now held) learnt tenure.old
         (target_in own.now tenure.old.epoch tenure.old.progress) from (Some known)) }
     ensures sound { OnOk result (AreSound own.now.versions tenure.new.peers searches.new) }
-    ensures reads { ReadsOnly B.records B.fault_count bodies.old bodies.new (fault_of result) }
+    ensures reads { ReadsOnly B.agrees B.fault_count bodies.old bodies.new (fault_of result) }
 {
     let Some(target) = target_in(own, tenure.epoch, &tenure.progress) else {
         return Ok(quiet(alloc));
@@ -304,12 +305,13 @@ pub fn body_staged<B: Bodies>(
     version: ObjectVersion,
 ) -> Result<Turned, StepErr>
     requires { AreSound own.now.versions tenure.old.peers searches.old }
-    ensures value { IfOk result (λ turned. (learnt : ℕ) (held : List ObjectVersion) →
+    ensures value { IfOk result (λ turned. (records : List Record) → B.agrees bodies.new records →
+        (learnt : ℕ) (held : List ObjectVersion) →
         goes_on learnt tenure.new turned ≡
-        stages_in (ground place.now (B.records bodies.old) own.now held) learnt tenure.old from
+        stages_in (ground place.now records own.now held) learnt tenure.old from
         (rows.peer_in tenure.old.peers from) version) }
     ensures sound { OnOk result (AreSound own.now.versions tenure.new.peers searches.new) }
-    ensures reads { ReadsOnly B.records B.fault_count bodies.old bodies.new (fault_of result) }
+    ensures reads { ReadsOnly B.agrees B.fault_count bodies.old bodies.new (fault_of result) }
 {
     let Some(target) = target_in(own, tenure.epoch, &tenure.progress) else {
         return Ok(quiet(alloc));
@@ -355,12 +357,13 @@ pub fn body_missed<B: Bodies>(
     version: ObjectVersion,
 ) -> Result<Turned, StepErr>
     requires { AreSound own.now.versions tenure.old.peers searches.old }
-    ensures value { IfOk result (λ turned. (learnt : ℕ) (held : List ObjectVersion) →
+    ensures value { IfOk result (λ turned. (records : List Record) → B.agrees bodies.new records →
+        (learnt : ℕ) (held : List ObjectVersion) →
         goes_on learnt tenure.new turned ≡
-        misses_in (ground place.now (B.records bodies.old) own.now held) learnt tenure.old from
+        misses_in (ground place.now records own.now held) learnt tenure.old from
         (rows.peer_in tenure.old.peers from) version) }
     ensures sound { OnOk result (AreSound own.now.versions tenure.new.peers searches.new) }
-    ensures reads { ReadsOnly B.records B.fault_count bodies.old bodies.new (fault_of result) }
+    ensures reads { ReadsOnly B.agrees B.fault_count bodies.old bodies.new (fault_of result) }
 {
     let Some(target) = target_in(own, tenure.epoch, &tenure.progress) else {
         return Ok(quiet(alloc));

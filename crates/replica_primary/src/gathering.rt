@@ -96,13 +96,14 @@ fn feed_peer<B: Bodies>(
     target: &FileHead,
     peer: &mut Peer,
 ) -> Result<(), StepErr>
-    ensures value { OnOk result ((own : FileHead) (held : List ObjectVersion) →
+    ensures value { OnOk result ((records : List Record) → B.agrees bodies.new records →
+        (own : FileHead) (held : List ObjectVersion) →
         peer.new ≡ record {
           node = peer.old.node;
-          state = rows.feed_peer (ground_beyond place.now (B.records bodies.old)
-              fetched.now own held) target.now peer.old.node peer.old.state;
+          state = rows.feed_peer (ground_beyond place.now records fetched.now own held) target.now
+              peer.old.node peer.old.state;
         }) }
-    ensures reads { ReadsOnly B.records B.fault_count bodies.old bodies.new (fault_of result) }
+    ensures reads { ReadsOnly B.agrees B.fault_count bodies.old bodies.new (fault_of result) }
 {
     if !is_to_feed(place, peer) {
         return Ok(());
@@ -124,10 +125,11 @@ fn feed_each<B: Bodies>(
     target: &FileHead,
     peers: &mut [Peer],
 ) -> Result<(), StepErr>
-    ensures value { OnOk result (peers.new ≡
-        rows.feed_peers (ground_beyond place.now (B.records bodies.old) fetched.now target.now [])
-        target.now peers.old) }
-    ensures reads { ReadsOnly B.records B.fault_count bodies.old bodies.new (fault_of result) }
+    ensures value { OnOk result ((records : List Record) → B.agrees bodies.new records →
+        peers.new ≡
+        rows.feed_peers (ground_beyond place.now records fetched.now target.now []) target.now
+        peers.old) }
+    ensures reads { ReadsOnly B.agrees B.fault_count bodies.old bodies.new (fault_of result) }
 {
     for peer in peers.iter_mut() {
         feed_peer(bodies, alloc, place, fetched, target, peer)?;
@@ -144,10 +146,11 @@ fn feed_peers<B: Bodies>(
     target: &FileHead,
     peers: &mut Peers,
 ) -> Result<(), StepErr>
-    ensures value { OnOk result (peers.new ≡
-        rows.feed_peers (ground_beyond place.now (B.records bodies.old) fetched.now target.now [])
-        target.now peers.old) }
-    ensures reads { ReadsOnly B.records B.fault_count bodies.old bodies.new (fault_of result) }
+    ensures value { OnOk result ((records : List Record) → B.agrees bodies.new records →
+        peers.new ≡
+        rows.feed_peers (ground_beyond place.now records fetched.now target.now []) target.now
+        peers.old) }
+    ensures reads { ReadsOnly B.agrees B.fault_count bodies.old bodies.new (fault_of result) }
 {
     let peers = peers.items.as_mut_slice();
     feed_each(bodies, alloc, place, fetched, target, peers)
@@ -199,11 +202,12 @@ fn installs<B: Bodies>(
     own: &FileHead,
     chosen: FileHead,
 ) -> Result<Turned, StepErr>
-    ensures value { IfOk result (λ turned. (learnt : ℕ) (held : List ObjectVersion) →
+    ensures value { IfOk result (λ turned. (records : List Record) → B.agrees bodies.new records →
+        (learnt : ℕ) (held : List ObjectVersion) →
         goes_on learnt tenure.new turned ≡
-        rows.installs (ground_beyond place.now (B.records bodies.old) fetched.now own.now held)
-        learnt tenure.old chosen) }
-    ensures reads { ReadsOnly B.records B.fault_count bodies.old bodies.new (fault_of result) }
+        rows.installs (ground_beyond place.now records fetched.now own.now held) learnt tenure.old
+        chosen) }
+    ensures reads { ReadsOnly B.agrees B.fault_count bodies.old bodies.new (fault_of result) }
 {
     let target = target_of(own, tenure.epoch, &chosen).copy(alloc)?;
     let acked = Seq::new(alloc);
@@ -233,12 +237,13 @@ pub fn install_and_keep<B: Bodies>(
     chosen: FileHead,
     fetched: Option<FetchedBody>,
 ) -> Result<Turned, StepErr>
-    ensures value { IfOk result (λ turned. (learnt : ℕ) (held : List ObjectVersion) →
+    ensures value { IfOk result (λ turned. (records : List Record) → B.agrees bodies.new records →
+        (learnt : ℕ) (held : List ObjectVersion) →
         goes_on learnt tenure.new turned ≡
         after_keeping (kept_of place.now.file fetched)
-        (rows.installs (ground_beyond place.now (B.records bodies.old) fetched own.now held) learnt
-        tenure.old chosen)) }
-    ensures reads { ReadsOnly B.records B.fault_count bodies.old bodies.new (fault_of result) }
+        (rows.installs (ground_beyond place.now records fetched own.now held) learnt tenure.old
+        chosen)) }
+    ensures reads { ReadsOnly B.agrees B.fault_count bodies.old bodies.new (fault_of result) }
 {
     let turned = installs(bodies, alloc, place, &fetched, tenure, own, chosen)?;
     let rec = kept_of(&place.file, fetched);

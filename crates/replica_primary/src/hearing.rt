@@ -296,12 +296,12 @@ fn proceeds<B: Bodies>(
     from: NodeId,
     next: Next,
 ) -> Result<Turned, StepErr>
-    ensures value { IfOk result (λ turned. (learnt : ℕ) (held : List ObjectVersion) →
+    ensures value { IfOk result (λ turned. (records : List Record) → B.agrees bodies.new records →
+        (learnt : ℕ) (held : List ObjectVersion) →
         goes_on learnt tenure.new turned ≡
-        next_of (ground place.now (B.records bodies.old) own.now held) learnt from tenure.old
-        next) }
+        next_of (ground place.now records own.now held) learnt from tenure.old next) }
     ensures sound { OnOk result (AreSound own.now.versions tenure.new.peers searches.new) }
-    ensures reads { ReadsOnly B.records B.fault_count bodies.old bodies.new (fault_of result) }
+    ensures reads { ReadsOnly B.agrees B.fault_count bodies.old bodies.new (fault_of result) }
 {
     searches.clear();
     match next {
@@ -357,16 +357,16 @@ pub fn hears<B: Bodies>(
     payload: &Payload,
 ) -> Result<Turned, StepErr>
     requires { AreSound own.now.versions (peers_under primary.old.tenure) searches.old }
-    ensures row { IfOk result (λ turned.
+    ensures row { IfOk result (λ turned. (records : List Record) → B.agrees bodies.new records →
         record { primary = shown_state primary.new; turned = turned } ≡
-        rows.hears (ground place.now (B.records bodies.old) own.now held.now)
-        (shown_state primary.old) from payload.now) }
+        rows.hears (ground place.now records own.now held.now) (shown_state primary.old) from
+        payload.now) }
     ensures rises { OnOk result (HeadRises own.now → CommittedUnder primary.old.tenure →
         CommittedUnder primary.new.tenure) }
     ensures sound { OnOk result (AreSound own.now.versions (peers_under primary.new.tenure)
         searches.new) }
     ensures kept { OnErr result (primary.new.learnt ≡ primary.old.learnt) }
-    ensures reads { ReadsOnly B.records B.fault_count bodies.old bodies.new (fault_of result) }
+    ensures reads { ReadsOnly B.agrees B.fault_count bodies.old bodies.new (fault_of result) }
 {
     let Some(tenure) = &mut primary.tenure else {
         return Ok(quiet(alloc));

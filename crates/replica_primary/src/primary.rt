@@ -4,6 +4,7 @@ ghost use Rattle.xt_protocol.specs.PrimaryRows.{draw_epoch, hears};
 ghost use Rattle.xt_protocol.specs.Serving.{reads, wakes, writes};
 ghost use Rattle.xt_messages.specs.declared.file.FileHead.{FileHead};
 ghost use Rattle.xt_messages.specs.declared.file.ObjectVersion.{ObjectVersion};
+ghost use Rattle.xt_messages.specs.declared.record.Record.{Record};
 ghost use Rattle.xt_messages.specs.Limits.{FitsOp, FitsStripe};
 ghost use Rattle.object_versions.specs.KeptBodies.{fault_of, ReadsOnly};
 ghost use Rattle.object_versions.specs.Rising.{HeadRises};
@@ -137,10 +138,10 @@ impl Primary {
         op: &Op,
     ) -> Result<Option<Reply>, StepErr>
         requires { turn.now.node ≡ self.now.place.node }
-        ensures value { IfOk result (λ answer. (own : FileHead) (held : List ObjectVersion) →
-            answer ≡ reads (ground self.now.place (B.records bodies.old) own held) self.now.state
-            op.now) }
-        ensures reads { ReadsOnly B.records B.fault_count bodies.old bodies.new (fault_of result) }
+        ensures value { IfOk result (λ answer. (records : List Record) →
+            B.agrees bodies.new records → (own : FileHead) (held : List ObjectVersion) →
+            answer ≡ reads (ground self.now.place records own held) self.now.state op.now) }
+        ensures reads { ReadsOnly B.agrees B.fault_count bodies.old bodies.new (fault_of result) }
     {
         let _turn = turn;
         reads_under(bodies, self.alloc, &self.place, &self.state.tenure, op)
@@ -158,15 +159,15 @@ impl Primary {
     ) -> Result<Option<Turned>, StepErr>
         requires turn { turn.now.node ≡ self.old.place.node }
         requires fits { FitsOp op.now }
-        ensures value { IfOk result (λ led. (own : FileHead) (held : List ObjectVersion) →
+        ensures value { IfOk result (λ led. (records : List Record) → B.agrees bodies.new records →
+            (own : FileHead) (held : List ObjectVersion) →
             option_map (λ turned. record { primary = self.new.state; turned = turned }) led ≡
-            writes (ground self.old.place (B.records bodies.old) own held) self.old.state id epoch
-            op.now) }
+            writes (ground self.old.place records own held) self.old.state id epoch op.now) }
         ensures place { IfOk result (λ led. self.new.place ≡ self.old.place) }
         ensures peers { peers_under self.new.state.tenure ≡ peers_under self.old.state.tenure }
         ensures waits { IfOk result (λ led. IfNone led (self.new ≡ self.old)) }
         ensures same { OnErr result (self.new ≡ self.old) }
-        ensures reads { ReadsOnly B.records B.fault_count bodies.old bodies.new (fault_of result) }
+        ensures reads { ReadsOnly B.agrees B.fault_count bodies.old bodies.new (fault_of result) }
     {
         let _turn = turn;
         let (alloc, place) = (self.alloc, &self.place);
@@ -196,19 +197,19 @@ impl Primary {
         requires own { HeadRises own.now }
         requires sound { AreSound own.now.versions (peers_under self.old.state.tenure)
             searches.old }
-        ensures state { IfOk result (λ led. self.new ≡
-            record self.old {
-              state = (hears (ground self.old.place (B.records bodies.old) own.now held.now)
+        ensures state { IfOk result (λ led. (records : List Record) → B.agrees bodies.new records →
+            self.new ≡ record self.old {
+              state = (hears (ground self.old.place records own.now held.now)
                   self.old.state from payload.now).primary;
             }) }
-        ensures led { IfOk result (λ led. led ≡
-            (hears (ground self.old.place (B.records bodies.old) own.now held.now) self.old.state
-            from payload.now).turned) }
+        ensures led { IfOk result (λ led. (records : List Record) → B.agrees bodies.new records →
+            led ≡ (hears (ground self.old.place records own.now held.now) self.old.state from
+            payload.now).turned) }
         ensures idle { OnErr result (self.new ≡
             record self.old { state = rows.idle self.old.state }) }
         ensures sound { AreSound own.now.versions (peers_under self.new.state.tenure)
             searches.new }
-        ensures reads { ReadsOnly B.records B.fault_count bodies.old bodies.new (fault_of result) }
+        ensures reads { ReadsOnly B.agrees B.fault_count bodies.old bodies.new (fault_of result) }
     {
         let _turn = turn;
         let (alloc, place) = (self.alloc, &self.place);

@@ -148,10 +148,11 @@ fn next_update<B: Bodies>(
     requires some { 1024 ≤ place.now.stripe }
     requires fits { FitsOp op.now }
     requires rising { HeadRises head.now }
-    ensures value { IfOk result (λ update. (own : FileHead) (held : List ObjectVersion) →
-        update ≡ rows.next_update_of (ground place.now (B.records bodies.old) own held) tenure.now
-        head.now id epoch op.now) }
-    ensures reads { ReadsOnly B.records B.fault_count bodies.old bodies.new (fault_of result) }
+    ensures value { IfOk result (λ update. (records : List Record) → B.agrees bodies.new records →
+        (own : FileHead) (held : List ObjectVersion) →
+        update ≡ rows.next_update_of (ground place.now records own held) tenure.now head.now id
+        epoch op.now) }
+    ensures reads { ReadsOnly B.agrees B.fault_count bodies.old bodies.new (fault_of result) }
 {
     if head.stamp.count >= COUNTS - 1 {
         return Ok(None);
@@ -227,12 +228,12 @@ fn fresh_write<B: Bodies>(
     requires fits { FitsOp op.now }
     requires rising { HeadRises head.now }
     requires active { tenure.now.progress ≡ progress.Active head.now issued.now }
-    ensures value { IfOk result (λ written.
+    ensures value { IfOk result (λ written. (records : List Record) → B.agrees bodies.new records →
         (learnt : ℕ) (own : FileHead) (held : List ObjectVersion) →
         led_of learnt tenure.now written ≡
-        rows.issues_unless (ground place.now (B.records bodies.old) own held) learnt tenure.now
-        head.now issued.now id epoch op.now) }
-    ensures reads { ReadsOnly B.records B.fault_count bodies.old bodies.new (fault_of result) }
+        rows.issues_unless (ground place.now records own held) learnt tenure.now head.now issued.now
+        id epoch op.now) }
+    ensures reads { ReadsOnly B.agrees B.fault_count bodies.old bodies.new (fault_of result) }
 {
     if issued.is_some() {
         return Ok(None);
@@ -257,13 +258,13 @@ fn write_stands<B: Bodies>(
     requires fits { FitsOp op.now }
     requires rising { HeadRises head.now }
     requires active { tenure.now.progress ≡ progress.Active head.now issued.now }
-    ensures value { IfOk result (λ written.
+    ensures value { IfOk result (λ written. (records : List Record) → B.agrees bodies.new records →
         (learnt : ℕ) (own : FileHead) (held : List ObjectVersion) →
         led_of learnt tenure.now written ≡
-        rows.write_stands (ground place.now (B.records bodies.old) own held) learnt tenure.now
-        head.now issued.now id epoch op.now
+        rows.write_stands (ground place.now records own held) learnt tenure.now head.now issued.now
+        id epoch op.now
         (standing OBJECTS place.now.stripe head.now id epoch op.now)) }
-    ensures reads { ReadsOnly B.records B.fault_count bodies.old bodies.new (fault_of result) }
+    ensures reads { ReadsOnly B.agrees B.fault_count bodies.old bodies.new (fault_of result) }
 {
     let (node, file) = (place.node, &place.file);
     match standing_of(OBJECTS, place.stripe, head, id, epoch, op) {
@@ -294,11 +295,11 @@ pub fn writes<B: Bodies>(
     requires some { 1024 ≤ place.now.stripe }
     requires fits { FitsOp op.now }
     requires rising { CommittedUnder primary.now.tenure }
-    ensures value { IfOk result (λ written. (own : FileHead) (held : List ObjectVersion) →
+    ensures value { IfOk result (λ written. (records : List Record) → B.agrees bodies.new records →
+        (own : FileHead) (held : List ObjectVersion) →
         led_under primary.now.learnt primary.now.tenure written ≡
-        rows.writes (ground place.now (B.records bodies.old) own held) primary.now id epoch
-        op.now) }
-    ensures reads { ReadsOnly B.records B.fault_count bodies.old bodies.new (fault_of result) }
+        rows.writes (ground place.now records own held) primary.now id epoch op.now) }
+    ensures reads { ReadsOnly B.agrees B.fault_count bodies.old bodies.new (fault_of result) }
 {
     let Some(tenure) = &primary.tenure else {
         return Ok(None);

@@ -1,10 +1,9 @@
 -- Rows that rise by file: where a search finds a file's row.
-use Rattle.std.proofs.Common.{◌≡◌, ℕ, zero, suc, ◌+◌, ◌<◌, ◌≤◌, Bool, true, false, cond, List, [], ◌∷◌, ◌++◌, length, get_or, take, set, Result, Ok, Err, refl, ap, sym, subst, ◌∙◌, arith, add-one}
+use Rattle.std.proofs.Common.{◌≡◌, ℕ, zero, suc, ◌+◌, ◌<◌, ◌≤◌, true, List, [], ◌∷◌, ◌++◌, length, get_or, take, set, Result, Ok, Err, refl, ap, sym, subst, ◌∙◌, arith, add-one}
 use Rattle.std.specs.List.{AllByRecursion, insert}
 use Rattle.std.specs.List.Sorted.{IsBinarySearchResult, IsNonDecreasingBy, IsSortedBy}
 use Rattle.std.specs.List.Sorted.{IsSearchInRange}
-use Rattle.std.specs.Ordering.{is_eq, is_lt, ordering_index, ordering_reverse}
-use Rattle.std.specs.declared.cmp.Ordering.{Ordering}
+use Rattle.std.specs.Ordering.{is_lt, ordering_index}
 use Rattle.std.specs.declared.cmp.Ordering.TheVariants.{Less, Equal, Greater}
 use Rattle.std.proofs.lemmas.List.Sorted.{searchable_from_sorted}
 use Rattle.std.proofs.lemmas.List.{take_more}
@@ -12,9 +11,9 @@ use Rattle.xt_base.specs.declared.ids.FileId.{FileId}
 use Rattle.xt_messages.specs.declared.record.FileRow.{FileRow}
 use Rattle.xt_messages.specs.declared.record.Record.{Record}
 use Rattle.xt_messages.specs.declared.record.Record.TheVariants as kept
-use Rattle.xt_protocol.specs.FileIds.{is_file, is_before, file_cmp}
+use Rattle.xt_protocol.specs.FileIds.{is_before, file_cmp}
 use Rattle.xt_protocol.specs.Folds.{row_in, with_row, new_row, row_after, fold_of, folded_after}
-use Rattle.xt_protocol.proofs.Folds.{file-equal, is_file-file_cmp, file_cmp_total, row_in-file, fold_of-push}
+use Rattle.xt_protocol.proofs.Folds.{file_cmp_total, row_in-file, fold_of-push}
 use Rattle.xt_protocol.proofs.FileRows.{less, back, equal_files, put_behind, put_over, put_before, read_behind, read_here, read_before}
 use Rattle.replica_records.specs.RowPlaces.{FilesRise, IsFilePlace}
 

@@ -6,3 +6,6 @@ pub mod SoundRows
 pub mod RecordLaws
 pub mod PayloadLength
 pub mod Placing
+pub mod Known
+pub mod BodyText
+pub mod FrontText

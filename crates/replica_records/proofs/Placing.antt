@@ -44,7 +44,7 @@ same_key a b =
     regroup true b c = refl
     regroup false b c = refl
 
-key_equal : (a b : BodyKey) → is_eq (body_cmp a b) ≡ true → a ≡ b
+pub key_equal : (a b : BodyKey) → is_eq (body_cmp a b) ≡ true → a ≡ b
 key_equal a b same =
     let parts = and_parts (is_file a.file b.file && (a.object == b.object)) (is_stamp a.version b.version) (sym (same_key a b) ∙ same) in
     let fronts = and_parts (is_file a.file b.file) (a.object == b.object) parts.0 in
@@ -54,11 +54,11 @@ key_equal a b same =
     λ i. record { file = files i; object = objects i; version = versions i }
 
 -- what a record puts for a key
-abbrev put_for : Option BodyKey → BodyKey → List ℕ → Option (List ℕ)
+abbrev pub put_for : Option BodyKey → BodyKey → List ℕ → Option (List ℕ)
 put_for None q bytes = None
 put_for (Some key) q bytes = if is_eq (body_cmp key q) then Some bytes else None
 
-put_is : (rec : Record) (q : BodyKey) → body_put q.file q.object q.version rec ≡ put_for (key_put rec) q (body_in rec)
+pub put_is : (rec : Record) (q : BodyKey) → body_put q.file q.object q.version rec ≡ put_for (key_put rec) q (body_in rec)
 put_is (kept.Update file update) q = at (update.object == NO_OBJECT)
   where
     key : BodyKey

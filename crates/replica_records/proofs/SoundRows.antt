@@ -1,10 +1,9 @@
 -- what a folding knows of its rows, after a record
-use Rattle.std.proofs.Common.{◌≡◌, ◌==◌, ◌↔◌, zero, suc, Bool, true, false, cond, if◌then◌else◌, IsTrue, List, [], ◌∷◌, Option, Some, None, refl, subst, arith}
+use Rattle.std.proofs.Common.{◌↔◌, zero, suc, Bool, true, false, cond, IsTrue, List, [], ◌∷◌, Option, Some, None, refl, subst, arith}
 use Rattle.std.specs.List.{AllByRecursion, Contains}
 use Rattle.xt_messages.specs.Limits.{FitsHead}
 use Rattle.xt_base.specs.declared.ids.FileId.{FileId}
 use Rattle.xt_messages.specs.declared.file.FileHead.{FileHead}
-use Rattle.xt_messages.specs.declared.file.Update.{Update}
 use Rattle.xt_messages.specs.declared.record.FileRow.{FileRow}
 use Rattle.xt_messages.specs.declared.record.Record.{Record}
 use Rattle.xt_messages.specs.declared.record.Record.TheVariants as kept

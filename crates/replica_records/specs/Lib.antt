@@ -3,5 +3,8 @@ pub mod Sound
 pub mod RecordText
 pub mod RecordFields
 pub mod Places
+pub mod Known
+pub mod Bare
+pub mod Fronts
 pub mod Logs
 pub mod Heads

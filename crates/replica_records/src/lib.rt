@@ -7,6 +7,7 @@
 
 mod errors;
 mod folding;
+mod front;
 mod head;
 mod keeping;
 mod log;
@@ -18,9 +19,11 @@ mod writing;
 
 pub use errors::RecordErr;
 pub use folding::{Folding, fold};
+pub use front::record_front;
 pub use head::{head_after, new_head, plain_stamp};
 pub use keeping::heads;
 pub use log::RecordLog;
 pub use object_versions::{Bodies, BodyErr};
 pub use payload::{read_record, record_bytes};
+pub use places::{BodyKey, Places, body_in};
 pub use xt_messages::{FileRow, FileTable, Folded, HeldPairs, Keep, Record};

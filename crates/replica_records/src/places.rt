@@ -66,7 +66,7 @@ impl BodyKey {
 impl Places {
     ghost use Rattle.std.specs.Prelude.{◌≡◌, ◌++◌, ◌∷◌, [], List, OnOk, OnErr, length};
     ghost use Rattle.xt_messages.specs.declared.record.Record.{Record};
-    ghost use Rattle.replica_records.specs.Places.{ArePlacesIn, HasRoomFor, place_in};
+    ghost use Rattle.replica_records.specs.Places.{ArePlacesIn, HasRoomFor, key_put, place_in};
 
     /// The places in no records.
     pub fn new(alloc: Global) -> Places
@@ -91,11 +91,12 @@ impl Places {
         Ok(())
     }
 
-    /// Takes the record at the end of the list, which is this place.
+    /// Takes the record at the end of the list, which is this place. It may be any that puts this record's body, with any bytes.
     pub fn put(&mut self, rec: &Record, place: usize)
         requires { HasRoomFor self.old rec.now }
-        ensures { (records : List Record) → place ≡ length records → ArePlacesIn self.old records →
-            ArePlacesIn self.new (records ++ rec.now ∷ []) }
+        ensures { (records : List Record) (like : Record) → key_put like ≡ key_put rec.now →
+            place ≡ length records → ArePlacesIn self.old records →
+            ArePlacesIn self.new (records ++ like ∷ []) }
     {
         if let Some(key) = BodyKey::of(rec) {
             let put: Result<_, _> = self.places.insert(key, Some(place));

@@ -12,10 +12,9 @@ use Rattle.xt_base.specs.declared.TheConstants.{OBJECTS, CLIENTS, COUNTS, NO_OBJ
 use Rattle.xt_messages.specs.Limits.{FitsEpoch, FitsStamp, FitsOpId, FitsMark, FitsHead, FitsVersion, FitsSession, FitsUpdate, IsObjectOrNone, is_at_most, rise}
 use Rattle.xt_protocol.specs.Stamps.{is_earlier}
 use Rattle.xt_protocol.specs.Heads.{head_after, versions_below}
-use Rattle.xt_protocol.specs.Folds.{held_after, body_of}
-use Rattle.object_versions.specs.Rising.{held_rise, HeadRises}
+use Rattle.object_versions.specs.Rising.{HeadRises}
 use Rattle.xt_protocol.specs.ReplicaRows.{head_fits}
-use Rattle.object_versions.proofs.HeadLimits.{when, objects_of, below_all, version_all, session_all, below_still_rise, versions_still_rise, sessions_still_rise, held_still_rise}
+use Rattle.object_versions.proofs.HeadLimits.{when, objects_of, below_all, version_all, session_all, below_still_rise, versions_still_rise, sessions_still_rise}
 
 at_most_along : (a b c : Epoch) → is_at_most a b ≡ true → is_at_most b c ≡ true → is_at_most a c ≡ true
 at_most_along a b c first second = grind (arith, nat_tests)

@@ -1,4 +1,5 @@
-ghost use Rattle.std.specs.Prelude.{◌≡◌, IfOk};
+ghost use Rattle.std.specs.Prelude.{◌≡◌, IfOk, List};
+ghost use Rattle.xt_messages.specs.declared.record.Record.{Record};
 ghost use Rattle.xt_protocol.specs.SeenBodies.{body_by};
 ghost use Rattle.xt_protocol.specs.ReplicaRows.{fetched_from};
 ghost use Rattle.object_versions.specs.KeptBodies.{fault_of, ReadsOnly};
@@ -19,10 +20,10 @@ pub fn fetched_from<B: Bodies>(
     object: u64,
     version: &Stamp,
 ) -> Result<Payload, StepErr>
-    ensures row { IfOk result (λ answer. answer ≡
-        fetched_from file.now held.now (body_by (B.records bodies.old) file.now) epoch.now object
+    ensures row { IfOk result (λ answer. (records : List Record) → B.agrees bodies.new records →
+        answer ≡ fetched_from file.now held.now (body_by records file.now) epoch.now object
         version.now) }
-    ensures reads { ReadsOnly B.records B.fault_count bodies.old bodies.new (fault_of result) }
+    ensures reads { ReadsOnly B.agrees B.fault_count bodies.old bodies.new (fault_of result) }
 {
     let (file, epoch, version) = (*file, *epoch, *version);
     let asked = ObjectVersion { object, version };

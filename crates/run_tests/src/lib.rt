@@ -117,10 +117,10 @@ mod tests {
         Ok(())
     }
 
-    /// A node attaches its disk, and looks at it and syncs it in three calls more; the calls of its first append come then.
+    /// A node attaches its disk, and syncs it and asks for its length in two calls more; the calls of its first append come then.
     #[test]
     fn a_failed_call_of_an_append_is_told(rt: HostRuntime) -> Result<(), Fail> {
-        const CALLS: [&[u64]; 4] = [&[5], &[6], &[7], &[8]];
+        const CALLS: [&[u64]; 4] = [&[4], &[5], &[6], &[7]];
         for device in CALLS {
             let left = ran(&rt, rt.alloc(), OSD, ONE, Failing { device, child: &[] })?;
             assert_eq!(rt; left.sink.as_slice(), b"! disk 1\n".as_slice());

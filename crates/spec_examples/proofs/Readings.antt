@@ -11,7 +11,7 @@ use Rattle.journal_areas.specs.declared.superblock.Superblock.{Superblock}
 use Rattle.journal_areas.specs.Superblocks.{superblock_in, superblock_size, current, IsSound}
 use Rattle.journal_areas.specs.Areas.{HasSuperblock, IsUnsound}
 use Rattle.journal_areas.proofs.Reaching.{Meets, met_has, met_shut}
-use Rattle.xt_journal.specs.declared.placed.Placed.{Placed}
+use Rattle.xt_journal.specs.Placed.{Placed}
 use Rattle.xt_journal.specs.Format.{header, open_gate, records, record_of, end_of, end_in, superblock_kind, IsPayload, IsGiven, AreGiven, IsJournal, Reached, StandsIn}
 use Rattle.xt_journal.specs.Reading.{ReadsAs, Stands, StandsAt, Damaged, payloads_of, placed_from, placed_in}
 use Rattle.xt_journal.proofs.Push.{payloads_in}

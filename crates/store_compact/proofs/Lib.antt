@@ -1,4 +1,5 @@
 pub mod Heads
-mod Counted
+mod Added
 mod Limits
 mod Named
+mod Compacted

@@ -1,3 +1,4 @@
-pub mod Counting
 pub mod Rewriting
 pub mod Worked
+pub mod Adding
+pub mod Compacting

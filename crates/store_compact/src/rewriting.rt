@@ -1,54 +1,56 @@
-ghost use Rattle.std.specs.Prelude.{◌≡◌, ◌++◌, IfOk, OnOk, filter, map};
+ghost use Rattle.std.specs.Prelude.{◌≡◌, ◌++◌, ◌∷◌, ◌⊎◌, [], IfOk, OnOk, Contains, filter, map};
+ghost use Rattle.std.specs.List.{All};
 ghost use Rattle.xt_protocol.specs.Folds.{is_logged, logged_of};
 ghost use Rattle.xt_protocol.specs.Forgetting.{is_kept, records_of_row, records_of_rows, rewritten, row_without, stage_of, view_of};
 ghost use Rattle.xt_protocol.specs.SeenBodies.{body_by};
-ghost use Rattle.replica_records.specs.Logs.{records_in};
+ghost use Rattle.object_store.specs.Access.{disk_of, log_of, records_of};
+ghost use Rattle.object_store.specs.Logs.{places_in};
+ghost use Rattle.object_store.specs.Places.{bytes_at};
+ghost use Rattle.store_compact.specs.Adding.{AreAdded, IsOf, all_copied_of, copied_of, plain};
 
+use disk_model::Disk;
+use object_store::{BodyPlace, Copied, Store};
 use object_versions::SoughtBodies;
-use replica_records::{BodyErr, RecordLog, fold};
-use std::alloc::{AllocError, Global};
+use replica_records::fold;
+use std::alloc::Global;
 use xt_base::{Copies, FileId, Octets, OutOfMemory};
 use xt_messages::{FileRow, Keep, Location, ObjectVersion, Record};
 
-/// The bytes that were put last as this body of the file. They are empty where no record put it, which can't happen to a body that is held.
-fn body(
-    alloc: Global,
-    log: &RecordLog,
-    file: &FileId,
-    version: ObjectVersion,
-) -> Result<Octets, OutOfMemory>
-    ensures { IfOk result (λ bytes. bytes ≡
-        body_by (records_in log.now) file.now version.object version.version) }
+/// No bytes.
+const NOWHERE: BodyPlace = BodyPlace { at: 0, len: 0 };
+
+/// Where the bytes are that were put last as this body of the file. They are none where no record put it, which can't happen to a body that
+/// is held.
+fn body<D: Disk>(store: &Store<D>, file: &FileId, version: ObjectVersion) -> BodyPlace
+    ensures bytes { bytes_at D.is_told (D.kept (disk_of store.now)).read result ≡
+        body_by (records_of store.now) file.now version.object version.version }
+    ensures place { (result.len ≡ 0) ⊎ Contains (places_in (log_of store.now)) result }
 {
-    match log.body(alloc, file, version.object, &version.version) {
-        Ok(bytes) => Ok(bytes),
-        Err(BodyErr::NoSuchVersion) => Ok(Octets::new(alloc)),
-        Err(BodyErr::Failed { .. }) => unreachable!(),
-        Err(BodyErr::OutOfMemory) => Err(AllocError),
+    match store.log().place(file, version.object, &version.version) {
+        Some(place) => place,
+        None => NOWHERE,
     }
 }
 
-/// The record that puts a body of the file. Its bytes are copied once.
-fn stage(
-    alloc: Global,
-    log: &RecordLog,
-    file: &FileId,
-    version: ObjectVersion,
-) -> Result<Record, OutOfMemory>
-    ensures { IfOk result (λ made. made ≡
-        stage_of (body_by (records_in log.now)) file.now version) }
+/// The record that puts a body of the file, which is copied.
+fn stage<D: Disk>(alloc: Global, store: &Store<D>, file: &FileId, version: ObjectVersion) -> Copied
+    ensures is { copied_of store.now result ≡
+        stage_of (body_by (records_of store.now)) file.now version }
+    ensures of { IsOf store.now result }
 {
-    let bytes = body(alloc, log, file, version)?;
-    Ok(Record::Stage {
-        file: *file,
-        object: version.object,
-        version: version.version,
-        bytes,
-    })
+    Copied {
+        bare: Record::Stage {
+            file: *file,
+            object: version.object,
+            version: version.version,
+            bytes: Octets::new(alloc),
+        },
+        body: body(store, file, version),
+    }
 }
 
 /// Whether the record is of a request.
-pub fn is_logged(rec: &Record) -> bool
+fn is_logged(rec: &Record) -> bool
     ensures { result ≡ is_logged rec.now }
 {
     match rec {
@@ -57,14 +59,35 @@ pub fn is_logged(rec: &Record) -> bool
     }
 }
 
+/// Puts a record after the others.
+fn put(made: &mut Vec<Copied>, copied: Copied) -> Result<(), OutOfMemory>
+    ensures { OnOk result (made.new.items ≡ made.old.items ++ copied ∷ []) }
+{
+    made.push(copied)?;
+    Ok(())
+}
+
+/// Puts a record that puts no body after the others.
+fn put_plain(made: &mut Vec<Copied>, rec: Record) -> Result<(), OutOfMemory>
+    ensures { OnOk result (made.new.items ≡ made.old.items ++ plain rec ∷ []) }
+{
+    put(
+        made,
+        Copied {
+            bare: rec,
+            body: NOWHERE,
+        },
+    )
+}
+
 /// Puts copies of those records that are of requests after the others, in their order.
 #[tactic(auto, unfolding(xt_protocol::specs::Folds::logged_of))]
-fn put_logged(alloc: Global, made: &mut Vec<Record>, records: &[Record]) -> Result<(), OutOfMemory>
-    ensures { OnOk result (made.new.items ≡ made.old.items ++ logged_of records.now) }
+fn put_logged(alloc: Global, made: &mut Vec<Copied>, records: &[Record]) -> Result<(), OutOfMemory>
+    ensures { OnOk result (made.new.items ≡ made.old.items ++ map plain (logged_of records.now)) }
 {
     for rec in records {
         if is_logged(rec) {
-            made.push(rec.copy(alloc)?)?;
+            put_plain(made, rec.copy(alloc)?)?;
         }
     }
     Ok(())
@@ -72,93 +95,100 @@ fn put_logged(alloc: Global, made: &mut Vec<Record>, records: &[Record]) -> Resu
 
 /// Puts the record of the file's list after the others, where it has one.
 fn put_view(
-    made: &mut Vec<Record>,
+    made: &mut Vec<Copied>,
     file: &FileId,
     location: &Option<Location>,
 ) -> Result<(), OutOfMemory>
-    ensures { OnOk result (made.new.items ≡ made.old.items ++ view_of file.now location.now) }
+    ensures { OnOk result (made.new.items ≡ made.old.items ++ map plain (view_of file.now location.now)) }
 {
     if let Some(location) = location {
-        made.push(Record::View {
+        let rec = Record::View {
             file: *file,
             location: *location,
-        })?;
+        };
+        put_plain(made, rec)?;
     }
     Ok(())
 }
 
 /// Puts the held bodies of a file that are kept after the others, in their order.
-fn put_bodies(
+fn put_bodies<D: Disk>(
     alloc: Global,
-    made: &mut Vec<Record>,
-    log: &RecordLog,
+    made: &mut Vec<Copied>,
+    store: &Store<D>,
     row: &FileRow,
     keep: &SoughtBodies<'_>,
 ) -> Result<(), OutOfMemory>
-    ensures { OnOk result (made.new.items ≡
-        made.old.items ++ map (stage_of (body_by (records_in log.now)) row.now.file)
-        (filter (is_kept keep.now row.now.file) row.now.held)) }
+    ensures { OnOk result (AreAdded store.now made.old.items made.new.items
+        (map (stage_of (body_by (records_of store.now)) row.now.file)
+        (filter (is_kept keep.now row.now.file) row.now.held))) }
 {
     for version in &row.held.versions {
         if keep.has(&row.file, *version) {
-            made.push(stage(alloc, log, &row.file, *version)?)?;
+            put(made, stage(alloc, store, &row.file, *version))?;
         }
     }
     Ok(())
 }
 
 /// Puts what says of a file what its row says after the others: its list, its bodies that are kept, and its head.
-fn put_row(
+fn put_row<D: Disk>(
     alloc: Global,
-    made: &mut Vec<Record>,
-    log: &RecordLog,
+    made: &mut Vec<Copied>,
+    store: &Store<D>,
     row: &FileRow,
     keep: &SoughtBodies<'_>,
 ) -> Result<(), OutOfMemory>
-    ensures { OnOk result (made.new.items ≡
-        made.old.items
-        ++ records_of_row (body_by (records_in log.now)) (row_without keep.now row.now)) }
+    ensures { OnOk result (AreAdded store.now made.old.items made.new.items
+        (records_of_row (body_by (records_of store.now)) (row_without keep.now row.now))) }
 {
     put_view(made, &row.file, &row.location)?;
-    put_bodies(alloc, made, log, row, keep)?;
-    made.push(Record::Head {
+    put_bodies(alloc, made, store, row, keep)?;
+    let rec = Record::Head {
         file: row.file,
         head: row.head.copy(alloc)?,
-    })?;
+    };
+    put_plain(made, rec)?;
     Ok(())
 }
 
 /// Puts what says of these files what their rows say after the others, file by file.
-fn put_rows(
+fn put_rows<D: Disk>(
     alloc: Global,
-    made: &mut Vec<Record>,
-    log: &RecordLog,
+    made: &mut Vec<Copied>,
+    store: &Store<D>,
     rows: &[FileRow],
     keep: &SoughtBodies<'_>,
 ) -> Result<(), OutOfMemory>
-    ensures { OnOk result (made.new.items ≡
-        made.old.items
-        ++ records_of_rows (body_by (records_in log.now)) (map (row_without keep.now) rows.now)) }
+    ensures { OnOk result (AreAdded store.now made.old.items made.new.items
+        (records_of_rows (body_by (records_of store.now)) (map (row_without keep.now) rows.now))) }
 {
     for row in rows {
-        put_row(alloc, made, log, row, keep)?;
+        put_row(alloc, made, store, row, keep)?;
     }
     Ok(())
 }
 
-/// The records that say what these say, but for the held bodies that aren't to be kept: the last start, the requests in their order,
+/// The records that say what the store's say, but for the held bodies that aren't to be kept: the last start, the requests in their order,
 /// and then file by file its list, its kept bodies and its head.
 ///
-/// It goes through the records once, finds each body by its place, and copies it once. It fails only if memory runs out.
+/// It goes through the records once, and finds each body by its place. No body is read: each is to be copied from there.
 #[tactic(auto, unfolding(xt_protocol::specs::Forgetting::rewritten))]
-pub fn rewritten(alloc: Global, log: &RecordLog, keep: &Keep) -> Result<Vec<Record>, OutOfMemory>
-    ensures { IfOk result (λ made. made.items ≡ rewritten keep.now (records_in log.now)) }
+pub fn rewritten<D: Disk>(
+    alloc: Global,
+    store: &Store<D>,
+    keep: &Keep,
+) -> Result<Vec<Copied>, OutOfMemory>
+    ensures are { IfOk result (λ made.
+        all_copied_of store.now made.items ≡ rewritten keep.now (records_of store.now)) }
+    ensures of { IfOk result (λ made. All (IsOf store.now) made.items) }
 {
     let keep = SoughtBodies::of(keep);
-    let folded = fold(alloc, log.as_slice())?;
+    let records = store.records();
+    let folded = fold(alloc, records)?;
     let mut made = Vec::new(alloc);
-    made.push(Record::Boot { boot: folded.boot })?;
-    put_logged(alloc, &mut made, log.as_slice())?;
-    put_rows(alloc, &mut made, log, folded.files.as_slice(), &keep)?;
+    put_plain(&mut made, Record::Boot { boot: folded.boot })?;
+    put_logged(alloc, &mut made, records)?;
+    put_rows(alloc, &mut made, store, folded.files.as_slice(), &keep)?;
     Ok(made)
 }

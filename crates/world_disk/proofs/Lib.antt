@@ -2,3 +2,4 @@ pub mod StoredRecords
 mod Stopping
 mod Rooms
 mod Rewriting
+mod Bodies

@@ -1,28 +1,44 @@
 -- a store whose records are rewritten
-use Rattle.std.proofs.Common.{◌≡◌, ℕ, ◌≤◌, nat_lt, if◌then◌else◌, true, false, List, Option, Some, None, is_none, IsTrue, sym, ◌∙◌, ap, subst, arith}
+use Rattle.std.proofs.Common.{◌≡◌, ℕ, ◌≤◌, nat_lt, if◌then◌else◌, Bool, true, false, List, Option, Some, None, Result, is_none, IsTrue, sym, ◌∙◌, ap, subst, arith}
 use Rattle.std.proofs.lemmas.Bool.Decides.{nat_tests}
 use Rattle.disk_model.specs.Changes.{Memory}
 use Rattle.disk_model.specs.declared.disk.Disk.{Ghosts}
 use Rattle.journal_areas.specs.declared.superblock.Superblock.{Superblock}
 use Rattle.journal_areas.specs.Sites.{moved, need_for}
 use Rattle.journal_moves.specs.Answers.{full_need}
+use Rattle.journal_moves.specs.Moves.{FailsWithin}
+use Rattle.xt_messages.specs.declared.record.KeepBody.{KeepBody}
 use Rattle.xt_messages.specs.declared.record.Record.{Record}
+use Rattle.xt_protocol.specs.Forgetting.{rewritten}
 use Rattle.xt_journal.specs.Access.{place_of, limit_of, superblock_of}
+use Rattle.object_store.specs.declared.errors.AppendErr.{AppendErr}
 use Rattle.object_store.specs.declared.store.Store.{Store}
 use Rattle.object_store.specs.Access.{journal_of, disk_of, records_of}
-use Rattle.object_store.specs.Swaps.{IsSwapped, IsSwapFull, size_of}
+use Rattle.object_store.specs.Swaps.{IsSwapped, IsSwapFull, Swaps, size_of}
 use Rattle.object_store.specs.Texts.{texts_of}
+use Rattle.object_store.proofs.Stored.{known_there}
+use Rattle.store_compact.specs.Compacting.{IsCompacted}
 use Rattle.world_disk.specs.Disks.{IsCalm}
 use Rattle.world_disk.specs.Room.{has_room_for, moved_to, place_in}
 use Rattle.world_disk.specs.Stored.{Stored}
 use Rattle.world_disk.specs.declared.TheConstants.{JOURNAL}
 use Rattle.world_disk.proofs.Rooms.{keeps_here, place_here}
+use Rattle.world_disk.proofs.Stopping.{false_ne_true}
 use Rattle.world_disk.proofs.StoredRecords.{ready_moved}
 use Rattle.xt_journal.specs.Format.{KeepsIn}
 use Rattle.xt_journal.specs.Loaded.{IsReady}
 
 inside : (n limit : ℕ) (over : ℕ) (or : Option ℕ) → (if nat_lt limit n then Some over else or) ≡ None → n ≤ limit
 inside n limit over or is = grind (arith, nat_tests)
+
+-- the very records are swapped for others, where contracts know what the disk keeps
+pub swaps_told : {D : Type 0} {g : Ghosts D} (keep : List KeepBody) (old : Store D g) (result : Result (Store D g) (AppendErr D g)) → IsTrue g.is_told
+    → IsCompacted keep old result → Swaps old (rewritten keep (records_of old)) result
+swaps_told {g = g} keep old result told ended =
+    subst (λ (rs : List Record). Swaps old rs result) (sym (known_there g.is_told ended.made told) ∙ ended.known) ended.swaps
+
+pub none_failed : (fails : ℕ → ℕ → Bool) (calls : ℕ) → ((looks changes : ℕ) → fails looks changes ≡ false) → FailsWithin calls fails → ⊥
+none_failed fails calls never failed = false_ne_true (sym (never 0 failed.0) ∙ failed.3.fails_there)
 
 -- a store and its new records
 module _ {D : Type 0} {g : Ghosts D} (old : Store D g) (told : IsTrue g.is_told) (limited : limit_of (journal_of old) ≡ JOURNAL) (made : List Record) where

@@ -51,9 +51,9 @@ pub stops_then : (disk : Memory) (bytes failing read : List ℕ) (call fill : �
     → failing ≡ [] → IsReady read → MadeCalls (planned disk.plan) new read → IsToStop call new
 stops_then disk bytes failing read call fill new is none ready calls changes few =
     calls.goes_on 0 changes
-    ∙ ap (λ (first : ℕ). planned disk.plan 2 (first + changes)) (calls.one ready)
-    ∙ ap (λ (d : Memory). planned d.plan 2 (1 + changes)) is
-    ∙ ap (λ (f : List ℕ). planned (made bytes f (Some (record { call = call + 1; fill = fill }))).plan 2 (1 + changes)) none
+    ∙ ap (λ (first : ℕ). planned disk.plan 1 (first + changes)) (calls.one ready)
+    ∙ ap (λ (d : Memory). planned d.plan 1 (1 + changes)) is
+    ∙ ap (λ (f : List ℕ). planned (made bytes f (Some (record { call = call + 1; fill = fill }))).plan 1 (1 + changes)) none
     ∙ one_later call changes few
 
 pub false_ne_true : false ≡ true → ⊥
@@ -61,7 +61,7 @@ false_ne_true h = cc
 
 pub calm_after : (old new : ℕ → ℕ → Bool) (bytes : List ℕ) → ((looks changes : ℕ) → old looks changes ≡ false) → MadeCalls old new bytes
     → (looks changes : ℕ) → new looks changes ≡ false
-calm_after old new bytes never calls looks changes = calls.goes_on looks changes ∙ never (2 + looks) (calls.changes + changes)
+calm_after old new bytes never calls looks changes = calls.goes_on looks changes ∙ never (1 + looks) (calls.changes + changes)
 
 le_itself : (n : ℕ) → nat_le n n ≡ true
 le_itself n = le-leb n n (omega arith)

@@ -8,7 +8,7 @@ use Rattle.std.specs.Coded.{Coded-set, coded_list}
 use Rattle.xt_messages.specs.contracts.record.Record as record_type
 use Rattle.xt_messages.specs.declared.record.Record.{Record}
 use Rattle.replica_records.specs.RecordText.{record_text}
-use Rattle.xt_journal.specs.declared.placed.Placed.{Placed}
+use Rattle.xt_journal.specs.Placed.{Placed}
 use Rattle.disk_model.specs.Changes.{Memory, Change, memory_kept, kept_after, MightHaveLeft}
 use Rattle.disk_model.specs.Disk.{Kept, IsImage, LeavesOnly, at_rest}
 use Rattle.disk_model.proofs.Images.{rest_stays}

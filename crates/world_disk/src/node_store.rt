@@ -7,10 +7,13 @@ ghost use Rattle.xt_messages.specs.Limits.{FitsRecord};
 ghost use Rattle.xt_messages.specs.declared.record.Record.{Record};
 ghost use Rattle.xt_protocol.specs.Folds.{fold_of, IsInPlace, body_kept};
 ghost use Rattle.xt_journal.specs.Access as journal;
-ghost use Rattle.xt_journal.specs.Format.{StandsIn, KeepsJournal};
+ghost use Rattle.xt_journal.specs.Format.{StandsIn};
 ghost use Rattle.xt_journal.specs.Loaded.{FailedCall, MadeCalls, IsReady};
-ghost use Rattle.xt_journal.specs.Reading.{payloads_of};
+ghost use Rattle.xt_journal.specs.Placed.{AreWithin};
+ghost use Rattle.xt_journal.specs.Reading.{payloads_on};
 ghost use Rattle.object_store.specs.Access.{records_of, disk_of, journal_of};
+ghost use Rattle.object_store.specs.Bare.{bare_of};
+ghost use Rattle.object_store.specs.Loading.{ArePlaced};
 ghost use Rattle.object_store.specs.Texts.{texts_of};
 ghost use Rattle.world_hull.specs.Answers.{IsFullOrMemory, IsFullExactly, GivesBody};
 ghost use Rattle.world_hull.specs.Appends.{kept_by};
@@ -22,13 +25,14 @@ ghost use Rattle.world_disk.specs.Stored.{IsRewritten, none_stored};
 
 use crate::JOURNAL;
 use disk_model::{MemoryDisk, Stop};
+use journal_moves::Extent;
 use object_store::{AppendErr, Store, StoreErr};
 use std::alloc::{AllocError, Global};
 use std::marker::Model;
 use store_compact::compact;
 use world_hull::{BodyErr, WorldErr};
 use xt_base::{CallList, Copies, FileId, Octets, OutOfMemory, Stamp};
-use xt_journal::{Journal, LoadErr, Placed};
+use xt_journal::{Journal, LoadErr};
 use xt_messages::{Keep, Record};
 
 /// The records of a node on a disk that doesn't fail. Contracts see their list, the superblock of their journal, and the disk.
@@ -62,19 +66,22 @@ impl Model for NodeStore {
         (superblock_of (journal_of node.store)) };
 }
 
-/// Loads the journal on a new disk that holds records, with its payloads. The disk doesn't fail meanwhile.
+/// Loads the journal on a new disk that holds records, with the extents of its payloads. The disk doesn't fail meanwhile.
 fn journal_on(
     alloc: Global,
     disk: MemoryDisk,
-) -> Result<(Journal<MemoryDisk>, Vec<Placed>), OutOfMemory>
+) -> Result<(Journal<MemoryDisk>, Vec<Extent>), OutOfMemory>
     requires made { disk.changes ≡ [] }
     requires stands { HasRecords (memory_kept disk).read }
     requires passes { FailedCall (planned disk.plan) (memory_kept disk).read → ⊥ }
     ensures reads { IfOk result (λ found.
         StandsIn (journal.superblock_of found.0) (memory_kept disk).read
-        (payloads_of found.1.items)) }
-    ensures keeps { IfOk result (λ found.
-        KeepsJournal (memory_kept (journal.disk_of found.0)) (payloads_of found.1.items)) }
+        (payloads_on (memory_kept disk).read found.1.items)) }
+    ensures placed { IfOk result (λ found. ArePlaced found.0 found.1.items) }
+    ensures within { IfOk result (λ found. AreWithin (journal.place_of found.0) found.1.items) }
+    ensures stays { IfOk result (λ found.
+        payloads_on (memory_kept (journal.disk_of found.0)).read found.1.items
+        ≡ payloads_on (memory_kept disk).read found.1.items) }
     ensures ready { IfOk result (λ found. IsReady (memory_kept (journal.disk_of found.0)).read) }
     ensures loaded { IfOk result (λ found. IsLoadedWith disk.first (journal.disk_of found.0)) }
     ensures plan { IfOk result (λ found.
@@ -107,11 +114,12 @@ fn store_on(alloc: Global, disk: MemoryDisk) -> Result<Store<MemoryDisk>, OutOfM
         MadeCalls (planned disk.plan) (planned (disk_of store).plan) (memory_kept disk).read) }
     ensures limit { IfOk result (λ store. journal.limit_of (journal_of store) ≡ JOURNAL) }
 {
-    let (journal, payloads) = journal_on(alloc, disk)?;
-    match Store::load(alloc, journal, payloads.as_slice()) {
+    let (journal, extents) = journal_on(alloc, disk)?;
+    match Store::load(alloc, journal, extents.as_slice()) {
         Ok(store) => Ok(store),
         Err(StoreErr::OutOfMemory { .. }) => Err(AllocError),
         Err(StoreErr::BadRecord { .. }) => unreachable!(),
+        Err(StoreErr::Broken { .. }) => unreachable!(),
     }
 }
 
@@ -251,9 +259,9 @@ impl NodeStore {
         Ok(restarted(alloc, left)?)
     }
 
-    /// A copy of the records, in order.
+    /// Copies of the records without their bodies, in order. No body is read.
     pub fn copies(&self, alloc: Global) -> Result<Vec<Record>, OutOfMemory>
-        ensures { IfOk result (λ made. made.items ≡ self.now.records) }
+        ensures { IfOk result (λ made. made.items ≡ bare_of self.now.records) }
     {
         let mut made = Vec::new(alloc);
         for rec in self.store.records() {
@@ -262,7 +270,7 @@ impl NodeStore {
         Ok(made)
     }
 
-    /// The body that was put last as this version of this object of the file.
+    /// The body that was put last as this version of this object of the file, read from the disk.
     pub fn body(
         &self,
         alloc: Global,

@@ -5,6 +5,7 @@ ghost use Rattle.disk_model.specs.Changes.{memory_kept};
 ghost use Rattle.disk_model.specs.Disk.{IsImage};
 ghost use Rattle.xt_messages.specs.Limits.{FitsRecord};
 ghost use Rattle.xt_protocol.specs.Folds.{IsInPlace, fold_of};
+ghost use Rattle.object_store.specs.Bare.{bare_of};
 ghost use Rattle.world_hull.specs.Answers.{IsFullOrMemory, IsFullExactly};
 ghost use Rattle.world_hull.specs.Appends.{IsInAppend, IsAppended, AreAllSame, AreOthersSame, kept_by, with_deed};
 ghost use Rattle.world_hull.specs.Revivals.{IsRevived};
@@ -163,16 +164,17 @@ impl Hull for DiskHull {
         Ok(Kept::by(stop))
     }
 
-    /// As of every hull; and what is found is what a crash leaves of the node's disk, loaded from a new one. The other
-    /// nodes' disks are as before; and where memory runs out, so is the node's own.
+    /// As of every hull; and the node's records are what a crash leaves of its disk, loaded from a new one. They are found without
+    /// their bodies. The other nodes' disks are as before; and where memory runs out, so is the node's own.
     fn revive(&mut self, alloc: Global, node: NodeId) -> Result<Vec<Record>, WorldErr>
         ensures found { IfOk result (λ found. IsRevived (records_of self.old, past_of self.old)
             (records_of self.new, past_of self.new) node found.items) }
         ensures error { IfErr result (λ error. error ≡ WorldErr.OutOfMemory) }
         ensures records { OnErr result (AreAllSame (records_of self.old, past_of self.old)
             (records_of self.new, past_of self.new)) }
-        ensures read { IfOk result (λ found.
-            IsReadAgain (disk_of self.old node.0) (disk_of self.new node.0) found.items) }
+        ensures bare { IfOk result (λ found. found.items ≡ bare_of (records_of self.old node.0)) }
+        ensures read { OnOk result (IsReadAgain (disk_of self.old node.0)
+            (disk_of self.new node.0) (records_of self.new node.0)) }
         ensures other_disks { AreOtherNodesSame self.old self.new node }
         ensures own_disk { OnErr result (node_of self.new ≡ node_of self.old) }
     {

@@ -5,6 +5,7 @@ ghost use Rattle.disk_model.specs.Changes.{memory_kept};
 ghost use Rattle.disk_model.specs.Disk.{IsImage};
 ghost use Rattle.xt_messages.specs.Limits.{FitsRecord};
 ghost use Rattle.xt_protocol.specs.Folds.{IsInPlace, fold_of, body_kept};
+ghost use Rattle.object_store.specs.Bare.{bare_of};
 ghost use Rattle.world_hull.specs.Answers.{IsFullOrMemory, IsFullExactly, GivesBody};
 ghost use Rattle.world_hull.specs.Appends.{IsInAppend, kept_by};
 ghost use Rattle.world_hull.specs.Rewritings.{MayBecome};
@@ -118,14 +119,13 @@ impl StoredNode {
         Ok(StoredNode { store, past, put })
     }
 
-    /// The node starts again from what a crash leaves of its disk. Gives the records that it finds there. Where memory runs
-    /// out, nothing has changed.
+    /// The node starts again from what a crash leaves of its disk. Gives the records that it finds there, without their bodies. Where
+    /// memory runs out, nothing has changed.
     pub fn read_again(&mut self, alloc: Global) -> Result<Vec<Record>, WorldErr>
         ensures same { self.new.records ≡ self.old.records }
         ensures past { OnOk result (self.new.past ≡ self.old.past ++ loads ∷ []) }
-        ensures found { IfOk result (λ found. found.items ≡ self.old.records) }
-        ensures read { IfOk result (λ found.
-            IsReadAgain self.old.disk self.new.disk found.items) }
+        ensures found { IfOk result (λ found. found.items ≡ bare_of self.old.records) }
+        ensures read { OnOk result (IsReadAgain self.old.disk self.new.disk self.new.records) }
         ensures error { IfErr result (λ error. error ≡ WorldErr.OutOfMemory) }
         ensures failed { OnErr result (self.new ≡ self.old) }
     {

@@ -4,9 +4,10 @@
 //! what a crash leaves of its disk, and nothing that was kept beside it.
 #![tactic(auto)]
 
-ghost use Rattle.std.specs.Prelude.{◌≡◌, IfOk, IfErr, OnErr};
+ghost use Rattle.std.specs.Prelude.{◌≡◌, IfOk, IfErr, OnOk, OnErr};
 ghost use Rattle.xt_messages.specs.Limits.{FitsRecord};
 ghost use Rattle.xt_protocol.specs.Folds.{IsInPlace, fold_of};
+ghost use Rattle.object_store.specs.Bare.{bare_of};
 ghost use Rattle.world_hull.specs.Answers.{IsFullOrMemory, IsFullExactly};
 ghost use Rattle.world_hull.specs.Appends.{IsInAppend, kept_by};
 ghost use Rattle.world_disk.specs.Ends.{IsReadAgain, own_after};
@@ -42,13 +43,13 @@ pub fn appended(
     }
 }
 
-/// The node starts again from what a crash leaves of its disk. Gives the records that it finds there. Where memory runs out,
-/// its records and its disk are as before.
+/// The node starts again from what a crash leaves of its disk. Gives the records that it finds there, without their bodies. Where
+/// memory runs out, its records and its disk are as before.
 pub fn read_again(alloc: Global, store: &mut NodeStore) -> Result<Vec<Record>, WorldErr>
     ensures same { store.new.records ≡ store.old.records }
     ensures superblock { store.new.superblock ≡ store.old.superblock }
-    ensures found { IfOk result (λ found. found.items ≡ store.old.records) }
-    ensures read { IfOk result (λ found. IsReadAgain store.old.disk store.new.disk found.items) }
+    ensures found { IfOk result (λ found. found.items ≡ bare_of store.old.records) }
+    ensures read { OnOk result (IsReadAgain store.old.disk store.new.disk store.new.records) }
     ensures error { IfErr result (λ error. error ≡ WorldErr.OutOfMemory) }
     ensures failed { OnErr result (store.new ≡ store.old) }
 {

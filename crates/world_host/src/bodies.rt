@@ -1,3 +1,5 @@
+ghost use Rattle.std.specs.Prelude.{◌≡◌, refl};
+
 use object_versions::{Bodies, BodyErr};
 use std::alloc::Global;
 use world_hull::Hull;
@@ -11,7 +13,9 @@ pub struct HullBodies<'a, H: Hull> {
 }
 
 impl<H: Hull> Bodies for HullBodies<'_, H> {
-    ghost records = { λ bodies. H.kept bodies.hull.now bodies.node.0 };
+    ghost agrees = { λ bodies records. records ≡ H.kept bodies.hull.now bodies.node.0 };
+
+    ghost some = { λ bodies. (H.kept bodies.hull.now bodies.node.0, refl) };
 
     ghost fault_count = { λ _. 0 };
 

@@ -1,4 +1,5 @@
-ghost use Rattle.std.specs.Prelude.{◌≡◌, ◌+◌, ◌<◌, ◌^◌, true, false, Option, Some, None, IfOk, IfSome, OnOk, OnErr};
+ghost use Rattle.std.specs.Prelude.{◌≡◌, ◌+◌, ◌<◌, ◌^◌, true, false, List, Option, Some, None, IfOk, IfSome, OnOk, OnErr};
+ghost use Rattle.xt_messages.specs.declared.record.Record.{Record};
 ghost use Rattle.std.specs.Option.{option_map};
 ghost use Rattle.world_spec.specs.World.{client, is_client, is_osd, is_server};
 ghost use Rattle.world_spec.specs.Rules.{has_call, may_go_again, held_in, file_held};
@@ -307,8 +308,11 @@ impl<C: NodeCore> Host<C> {
         requires clock { IfSome self.old.up (λ running. running.clock < 2 ^ 62) }
         requires fits { FitsEvent ev.now }
         ensures handled { IfOk result (λ turned.
-            Handles (B.records bodies.old) ev.now self.old self.new turned) }
+            (records : List Record) → B.agrees bodies.new records →
+            Handles records ev.now self.old self.new turned) }
         ensures err { OnErr result (self.new ≡ record self.old { up = None }) }
+        ensures later { (records : List Record) → B.agrees bodies.new records →
+            B.agrees bodies.old records }
     {
         let Some(running) = &mut self.up else {
             return Ok(None);

@@ -1,4 +1,5 @@
-ghost use Rattle.std.specs.Prelude.{◌≡◌, ◌<◌, ◌^◌, true, false, Some, IfOk, OnOk};
+ghost use Rattle.std.specs.Prelude.{◌≡◌, ◌<◌, ◌^◌, true, false, List, Some, IfOk, OnOk};
+ghost use Rattle.xt_messages.specs.declared.record.Record.{Record};
 ghost use Rattle.xt_base.specs.TimeSettings.{TimeSettings};
 ghost use Rattle.xt_base.specs.declared.ids.NodeId.{NodeId};
 ghost use Rattle.xt_protocol.specs.OsdSteps.{osd_from};
@@ -77,10 +78,13 @@ pub trait NodeCore: Drop {
     ) -> Result<Turned, OutOfMemory>
         requires clock { clock < 2 ^ 62 }
         requires fits { FitsEvent ev.now }
-        ensures { IfOk result (λ turned.
+        ensures step { IfOk result (λ turned.
+            (records : List Record) → B.agrees bodies.new records →
             IsCoreStep state is_of (λ host.
-            core_step host.times (node_with (B.records bodies.old) host) (state self.old) clock
-            ev.now) self.old self.new turned) };
+            core_step host.times (node_with records host) (state self.old) clock ev.now) self.old
+            self.new turned) }
+        ensures later { (records : List Record) → B.agrees bodies.new records →
+            B.agrees bodies.old records };
 
     /// A client makes a call; any other node makes none. `declared` is the file of the call, if a schedule declares it: the client is
     /// given its capability first. What the call uses is declared or held, and no call runs.

@@ -10,13 +10,13 @@ use xt_journal::Journal;
 /// Loads the store on a disk and compacts it with the bodies that the heads of its files name, and gives how many records it has then,
 /// and how many bytes they take.
 pub fn compact_on<D: Disk>(alloc: Global, disk: D) -> Result<Done> {
-    let Ok((journal, placed)) = Journal::load(alloc, disk, u64::MAX) else {
+    let Ok((journal, extents)) = Journal::load(alloc, disk, u64::MAX) else {
         bail!("the journal isn't loaded");
     };
-    let Ok(store) = Store::load(alloc, journal, placed.as_slice()) else {
+    let Ok(store) = Store::load(alloc, journal, extents.as_slice()) else {
         bail!("the records aren't loaded");
     };
-    drop(placed);
+    drop(extents);
     let Ok(folded) = fold(alloc, store.records()) else {
         bail!("out of memory");
     };

@@ -60,15 +60,15 @@ pub fn append_times(alloc: Global, size: usize, times: u32) -> Result<u64> {
 
 /// Loads the journal on a disk, and gives how many payloads it has, and their bytes.
 fn load_from<D: Disk>(alloc: Global, disk: D) -> Result<Done> {
-    let Ok((_journal, placed)) = Journal::load(alloc, disk, u64::MAX) else {
+    let Ok((_journal, extents)) = Journal::load(alloc, disk, u64::MAX) else {
         bail!("the journal isn't loaded");
     };
     let mut bytes = 0u64;
-    for payload in &placed {
-        bytes = bytes.saturating_add(payload.bytes.as_slice().len() as u64);
+    for extent in &extents {
+        bytes = bytes.saturating_add(extent.len as u64);
     }
     Ok(Done {
-        pieces: placed.len() as u64,
+        pieces: extents.len() as u64,
         bytes,
     })
 }

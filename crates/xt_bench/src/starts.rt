@@ -82,10 +82,10 @@ fn journal_on<D: Disk>(alloc: Global, disk: D, updates: u32) -> Result<Journal<D
 
 /// Loads the records on a disk, and gives how many there are, and how many bytes they take.
 pub fn records_on<D: Disk>(alloc: Global, disk: D) -> Result<Done> {
-    let Ok((journal, payloads)) = Journal::load(alloc, disk, u64::MAX) else {
+    let Ok((journal, extents)) = Journal::load(alloc, disk, u64::MAX) else {
         bail!("the journal isn't loaded again");
     };
-    match Store::load(alloc, journal, payloads.as_slice()) {
+    match Store::load(alloc, journal, extents.as_slice()) {
         Ok(store) => Ok(Done {
             pieces: store.records().len() as u64,
             bytes: store.area().length,

@@ -3,9 +3,10 @@ pub mod Located
 pub mod Push
 pub mod Records
 pub mod Ready
-pub mod Taken
+pub mod Payloads
+pub mod Windows
+pub mod Nexts
 pub mod Found
 pub mod Unique
 pub mod Steps
 pub mod Swapping
-pub mod Slices

@@ -1,54 +1,33 @@
 -- where a journal stands, by how far it is read
-use Rattle.std.proofs.Common.{◌≡◌, ℕ, ◌+◌, ◌^◌, ◌<◌, ◌≤◌, ⊎_elim, List, ◌++◌, length, sym, ◌∙◌, ap, subst, arith, length-append, Option, Some, None}
+use Rattle.std.proofs.Common.{◌≡◌, ℕ, ◌+◌, ◌^◌, ◌<◌, ◌≤◌, List, [], ◌∷◌, ◌++◌, length, sym, ap, subst, arith, Option, Some, None}
+use Rattle.std.proofs.lemmas.List.Elements.{All-push}
 use Rattle.journal_areas.specs.declared.superblock.Slot.{Slot}
 use Rattle.journal_areas.specs.declared.superblock.Superblock.{Superblock}
-use Rattle.journal_areas.specs.Areas.{IsUnmoved, IsMoved, end_by}
-use Rattle.journal_areas.specs.Sites.{area_by, area_of, slot_of}
-use Rattle.journal_areas.proofs.Reaching.{counts_inside, has_gate}
-use Rattle.journal_areas.proofs.Records.{records-append}
+use Rattle.journal_areas.specs.Sites.{area_by, slot_of}
+use Rattle.journal_areas.specs.Superblocks.{current, IsSound}
+use Rattle.journal_areas.proofs.Reaching.{counts_inside}
+use Rattle.journal_moves.specs.declared.extent.Extent.{Extent}
 use Rattle.journal_moves.specs.Answers.{IsPlaced}
-use Rattle.xt_journal.specs.Format.{records, Reached, end_in}
 use Rattle.xt_journal.specs.Located.{IsLocated}
+use Rattle.xt_journal.specs.Placed.{AreWithin, IsWithin}
 
-record Stands (super : Option Superblock) (end : ℕ) : Type 0 where
-  placed : IsPlaced super end
-  began : (area_of super end).place ≤ end
+-- after a superblock whose slots are shut
+pub located_shut : (s : Superblock) (end : ℕ) → s.gate ≡ end → 12 ≤ end → current s ≡ None → end + 57 < 2 ^ 64 → IsLocated (Some s) (end + 56)
+located_shut s end gate low none small = record {
+  placed = omega (arith, gate);
+  began = subst (λ (c : Option Slot). (area_by (end + 56) c).place ≤ end + 56) (sym none) (omega (arith, low));
+  small = omega (arith, small);
+}
 
-module _ (bytes : List ℕ) (s : Superblock) (payloads : List (List ℕ)) (rest : List ℕ) where
-  began_by : ℕ → Option Slot → Type 0
-  began_by end slot = (area_by end slot).place ≤ end
-
-  unmoved_stands : IsUnmoved bytes s payloads rest → Stands (Some s) (end_in (Some s) payloads)
-  unfolding began_by
-  unmoved_stands is =
-      let gate = has_gate bytes s is.before (records is.after ++ rest) is.has in
-      let size : length (records payloads) ≡ length (records is.before) + length (records is.after) =
-      ap (λ (ps : List (List ℕ)). length (records ps)) is.all ∙ ap length (records-append is.before is.after) ∙ length-append (records is.before) (records is.after) in
-      let ends : end_in (Some s) payloads ≡ 68 + length (records payloads) = ap (λ (c : Option Slot). end_by s c payloads) is.none in
-      record {
-        placed = omega (arith, gate, size, ends);
-        began = subst (λ (c : Option Slot). began_by (end_in (Some s) payloads) c) (sym is.none) (omega (arith, ends));
-      }
-
-  moved_stands : IsMoved bytes s payloads rest → Stands (Some s) (end_in (Some s) payloads)
-  unfolding began_by
-  moved_stands is =
-      let site = counts_inside (length bytes) s is.slot is.has.sound is.counts in
-      let ends : end_in (Some s) payloads ≡ is.slot.place + length (records payloads) = ap (λ (c : Option Slot). end_by s c payloads) is.counts in
-      record {
-        placed = omega (arith, site.0, ends);
-        began = subst (λ (c : Option Slot). began_by (end_in (Some s) payloads) c) (sym is.counts) (omega (arith, ends));
-      }
-
-stands : (super : Option Superblock) (bytes : List ℕ) (payloads : List (List ℕ)) (rest : List ℕ) → Reached super bytes payloads rest → Stands super (end_in super payloads)
-stands None bytes payloads rest is = record { placed = tt; began = omega arith }
-stands (Some s) bytes payloads rest is = ⊎_elim (unmoved_stands bytes s payloads rest) (moved_stands bytes s payloads rest) is
-
-pub located_at : (super : Option Superblock) (bytes : List ℕ) (payloads : List (List ℕ)) (rest : List ℕ) (end : ℕ) → Reached super bytes payloads rest → end ≡ end_in super payloads
-    → end + 1 < 2 ^ 64 → IsLocated super end
-located_at super bytes payloads rest end is is_end small =
-    let there : Stands super end = subst (Stands super) (sym is_end) (stands super bytes payloads rest is) in
-    record { placed = there.placed; began = there.began; small = small }
+-- in the area that counts
+pub located_open : (size : ℕ) (s : Superblock) (slot : Slot) → IsSound size s → current s ≡ Some slot → size < 2 ^ 64 → IsLocated (Some s) slot.place
+located_open size s slot sound counts small =
+    let site = counts_inside size s slot sound counts in
+    record {
+      placed = omega (arith, site.0);
+      began = subst (λ (c : Option Slot). (area_by slot.place c).place ≤ slot.place) (sym counts) (omega arith);
+      small = omega (arith, site.1, small);
+    }
 
 placed_later : (super : Option Superblock) (end later : ℕ) → end ≤ later → IsPlaced super end → IsPlaced super later
 placed_later None end later up is = tt
@@ -61,3 +40,19 @@ began_later end later (Some slot) up is = omega (arith, up, is)
 -- and after a record more
 pub located_later : (super : Option Superblock) (end later : ℕ) → end ≤ later → later + 1 < 2 ^ 64 → IsLocated super end → IsLocated super later
 located_later super end later up small is = record { placed = placed_later super end later up is.placed; began = began_later end later (slot_of super) up is.began; small = small }
+
+-- ---- where payloads may be
+
+pub within_later : (end later : ℕ) (extents : List Extent) → end ≤ later → AreWithin end extents → AreWithin later extents
+within_later end later extents up are = λ k d less. record { after = (are k d less).after; before = omega (arith, up, (are k d less).before) }
+
+pub none_within : (end : ℕ) (extents : List Extent) → extents ≡ [] → AreWithin end extents
+none_within end extents none = λ k d less. absurd (omega (arith, less, ap length none))
+
+-- one more
+pub within-push : (end len : ℕ) (extents after : List Extent) → 12 ≤ end → AreWithin end extents → after ≡ extents ++ record { at = end + 5; len = len } ∷ []
+    → AreWithin (end + (5 + len)) after
+within-push end len extents after low are is =
+    subst (AreWithin (end + (5 + len))) (sym is)
+    (All-push (IsWithin (end + (5 + len))) extents (record { at = end + 5; len = len }) (within_later end (end + (5 + len)) extents (omega arith) are)
+    (record { after = omega (arith, low); before = omega arith }))

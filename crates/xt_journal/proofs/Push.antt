@@ -8,7 +8,7 @@ use Rattle.journal_areas.specs.Superblocks.{current}
 use Rattle.journal_areas.specs.Areas.{IsUnmoved, IsMoved, end_by}
 use Rattle.journal_areas.proofs.Records.{length-record, length-push, records-append}
 use Rattle.journal_areas.proofs.Reaching.{has_gate}
-use Rattle.xt_journal.specs.declared.placed.Placed.{Placed}
+use Rattle.xt_journal.specs.Placed.{Placed}
 use Rattle.xt_journal.specs.Format.{record_of, records, end_of, Reached, end_in}
 use Rattle.xt_journal.specs.Reading.{payloads_of, placed_from, past, placed_by, placed_in}
 pub use Rattle.journal_areas.proofs.Records.{records-push, end_of-push}

@@ -1,6 +1,5 @@
 -- What a load leaves of a disk that it makes ready.
-use Rattle.std.proofs.Common.{◌≡◌, ◌≢◌, ◌+◌, Bool, true, false, ◌⊎◌, inl, inr, ⊎_elim, ◌≤◌, ℕ, List, [], length, sym, ◌∙◌, ap, subst, arith, take, refl, None, Result, Ok, Err, IsErrOf}
-use Rattle.std.proofs.lemmas.List.{take_all}
+use Rattle.std.proofs.Common.{◌≡◌, ◌≢◌, ◌+◌, Bool, true, false, ◌⊎◌, inl, inr, ⊎_elim, ◌≤◌, ℕ, List, [], length, sym, ◌∙◌, ap, subst, arith, refl, None, Result, Ok, Err, IsErrOf}
 use Rattle.disk_model.specs.Disk.{Kept, IsImage, at_rest}
 use Rattle.disk_model.proofs.Images.{rest_stays}
 use Rattle.xt_journal.specs.declared.format.Trouble.{Trouble}
@@ -9,10 +8,6 @@ use Rattle.journal_records.specs.Calls.{GoesOn, MayBeTorn, IsTornAt}
 use Rattle.xt_journal.specs.Parsed.{is_fault}
 use Rattle.xt_journal.specs.Format.{journal_of, IsJournal, KeepsIn}
 use Rattle.xt_journal.specs.Loaded.{IsReady, IsUnready, FailedCall, LeavesAsBefore, LeavesDisk, MadeCalls, TellsFresh}
-
--- a buffer of a disk's length takes all of it
-pub all_read : (len size : ℕ) (read buf : List ℕ) → size ≡ len → len ≡ length read → buf ≡ take size read → buf ≡ read
-all_read len size read buf same whole is = is ∙ take_all size read (omega (arith, same, whole))
 
 -- after its sync
 pub left_later : (old mid new : Kept) → mid ≡ at_rest old.read → LeavesDisk mid new → LeavesDisk old new
@@ -52,14 +47,14 @@ module _ (old mid : ℕ → ℕ → Bool) (is : (l c : ℕ) → mid l c ≡ old 
     changes = made.changes;
     three = made.three;
     one = λ ready. made.one (subst IsReady (sym are) ready);
-    goes_on = λ l c. made.goes_on l c ∙ is (2 + l) (made.changes + c);
+    goes_on = λ l c. made.goes_on l c ∙ is (1 + l) (made.changes + c);
   }
 
   pub failed_first : FailedCall mid same → FailedCall old bytes
   failed_first failed = record {
     looks = failed.looks;
     changes = failed.changes;
-    two = failed.two;
+    looked = failed.looked;
     three = failed.three;
     one = λ ready. failed.one (subst IsReady (sym are) ready);
     fails_there = sym (is failed.looks failed.changes) ∙ failed.fails_there;
@@ -81,29 +76,19 @@ pub settle_failed : (fails : ℕ → ℕ → Bool) (bytes : List ℕ) → ((l : 
 settle_failed fails bytes failed = record {
   looks = failed.0;
   changes = 1;
-  two = omega (arith, failed.1);
+  looked = omega (arith, failed.1);
   three = omega arith;
   one = λ ready. omega arith;
   fails_there = failed.2;
 }
 
-pub reading_failed : (fails later : ℕ → ℕ → Bool) (bytes : List ℕ) → GoesOn 1 1 fails later → later 1 0 ≡ true → FailedCall fails bytes
-reading_failed fails later bytes goes failed = record {
-  looks = 2;
-  changes = 1;
-  two = omega arith;
-  three = omega arith;
-  one = λ ready. omega arith;
-  fails_there = sym (goes 1 0) ∙ failed;
-}
-
 pub making_failed : (fails later : ℕ → ℕ → Bool) (bytes same : List ℕ) → same ≡ bytes → length bytes ≤ 13 → GoesOn 1 1 fails later
-    → ((c : ℕ) × (c ≤ 2) × (same ≡ journal_of [] → c ≡ 0) × (later 1 c ≡ true)) → FailedCall fails bytes
+    → ((c : ℕ) × (c ≤ 2) × (same ≡ journal_of [] → c ≡ 0) × (later 0 c ≡ true)) → FailedCall fails bytes
 making_failed fails later bytes same are short goes failed = record {
-  looks = 2;
+  looks = 1;
   changes = 1 + failed.0;
-  two = omega arith;
+  looked = omega arith;
   three = omega (arith, failed.1);
   one = λ ready. ⊎_elim (λ long. absurd (omega (arith, long, short))) (λ fresh. omega (arith, failed.2 (are ∙ fresh))) ready;
-  fails_there = sym (goes 1 failed.0) ∙ failed.3;
+  fails_there = sym (goes 0 failed.0) ∙ failed.3;
 }

@@ -13,7 +13,7 @@ use Rattle.disk_model.proofs.Moments.{elapsed}
 use Rattle.disk_model.proofs.Images.{front_stays, back_stays, rest_stays, size_stays}
 use Rattle.journal_areas.specs.declared.superblock.Superblock.{Superblock}
 use Rattle.journal_moves.proofs.Stopped.{torn_image, gate_filled}
-use Rattle.journal_areas.proofs.Reaching.{reached_front, reached_more, reached_stays}
+use Rattle.journal_areas.proofs.Reaching.{end_of_reached, reached_front, reached_more, reached_stays}
 use Rattle.xt_journal.specs.declared.append.Refusal.{Refusal}
 use Rattle.xt_journal.specs.declared.append.Refusal.TheVariants.{Broken, OutOfMemory}
 use Rattle.xt_journal.specs.Appended.{Appends}
@@ -231,6 +231,12 @@ keeps_in super kept end payloads ends keeps = record {
 pub place_of_end : (super : Option Superblock) (kept : Kept) (end : ℕ) (payloads : List (List ℕ)) → ∥ EndsAt super kept end ∥₁ → KeepsJournal kept payloads → end ≡ end_in super payloads
 place_of_end super kept end payloads ends keeps =
     ∥∥₁_elim ends (hlevel props) (λ is. is.place ∙ ap (end_in super) (same_payloads super kept end payloads is keeps))
+
+-- it ends before the disk does
+pub end_inside : (super : Option Superblock) (kept : Kept) (end : ℕ) → ∥ EndsAt super kept end ∥₁ → end < length kept.read
+end_inside super kept end ends =
+    ∥∥₁_elim ends (hlevel props) (λ is. ∥∥₁_elim is.keeps.journal (hlevel props) (λ journal.
+    omega (arith, is.place, end_of_reached super kept.read is.payloads (journal.gate ∷ journal.rest) journal.reached)))
 
 -- a payload goes where the journal ends
 pub goes_at : (super : Option Superblock) (kept : Kept) (end : ℕ) (payloads : List (List ℕ)) (payload : List ℕ) → ∥ EndsAt super kept end ∥₁ → 1 ≤ length payload → length payload < 2 ^ 32

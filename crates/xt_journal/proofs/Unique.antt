@@ -1,11 +1,11 @@
 -- A disk has one reading.
-use Rattle.std.proofs.Common.{◌≡◌, ◌≢◌, ℕ, ◌<◌, List, ◌∷◌, ◌++◌, length, take, drop, sym, ◌∙◌, ap, subst, Option, Result, Ok, Err, IfSome}
+use Rattle.std.proofs.Common.{◌≡◌, ◌≢◌, ℕ, ◌<◌, true, List, ◌∷◌, ◌++◌, length, take, drop, sym, ◌∙◌, ap, subst, Option, Result, Ok, Err, IfSome}
 use Rattle.std.proofs.Props.{props}
 use Rattle.std.proofs.Math.Logic.{∥∥₁_elim, ∥∥₁_map}
 use Rattle.byteorder.specs.Endian.{big_number}
 use Rattle.journal_areas.specs.declared.superblock.Superblock.{Superblock}
 use Rattle.journal_areas.proofs.Once.{damaged_once, damaged_stands_not, long_stands, reached_header, stands_once}
-use Rattle.xt_journal.specs.declared.placed.Placed.{Placed}
+use Rattle.xt_journal.specs.Placed.{Placed, placed_on}
 use Rattle.xt_journal.specs.declared.format.Found.{Found}
 use Rattle.xt_journal.specs.Format.{sign, header, StandsFor, IsDamaged}
 use Rattle.xt_journal.specs.Reading.{Reading, Stands, Foreign, Unknown, Damaged, ReadsAs, StandsAt, IsTheReading, payloads_of, placed_in}
@@ -71,8 +71,10 @@ read bytes same reading is reads =
     let here : ReadsAs bytes reading = subst (λ (l : List ℕ). ReadsAs l reading) is reads in
     record { reads = here; no_other = λ other also. one_reading bytes other reading also here }
 
-pub the_reading : (bytes same : List ℕ) (result : Result Found Trouble) → same ≡ bytes → Gives same result → IfSome (reading_found result) (IsTheReading bytes)
-the_reading bytes same (Ok found) is gives = read bytes same (Stands found.placed.items) is gives
+pub the_reading : (bytes same : List ℕ) (result : Result Found Trouble) → same ≡ bytes → Gives same result → IfSome (reading_found bytes result) (IsTheReading bytes)
+the_reading bytes same (Ok found) is gives =
+    let extents = found.extents.items in
+    read bytes same (Stands (placed_on true bytes extents)) is (subst (λ (l : List ℕ). ReadsAs same (Stands (placed_on true l extents))) is gives)
 the_reading bytes same (Err (trouble.NotOurs first)) is gives = read bytes same (Foreign first) is gives
 the_reading bytes same (Err (trouble.Layout version)) is gives = read bytes same (Unknown version) is gives
 the_reading bytes same (Err (trouble.Damaged place)) is gives = read bytes same (Damaged place) is gives

@@ -1,20 +1,21 @@
 -- What loading and appending answer.
-use Rattle.std.specs.Prelude.{ℕ, ◌<◌, ◌≤◌, ◌≡◌, Vec, Option, None, Some, Result, Ok, Err}
+use Rattle.std.specs.Prelude.{ℕ, ◌<◌, ◌≤◌, ◌≡◌, true, List, Vec, Option, None, Some, Result, Ok, Err}
 use Rattle.std.specs.declared.alloc.Global.{Global}
 use Rattle.disk_model.specs.declared.disk.Disk.{Ghosts}
 use Rattle.xt_base.specs.Faults.{counted}
-use Rattle.xt_journal.specs.declared.placed.Placed.{Placed}
+use Rattle.journal_moves.specs.declared.extent.Extent.{Extent}
 use Rattle.xt_journal.specs.declared.journal.Journal.{Journal}
 use Rattle.xt_journal.specs.declared.errors.LoadErr.{LoadErr}
 use Rattle.xt_journal.specs.declared.errors.LoadErr.TheVariants as load
 use Rattle.xt_journal.specs.declared.errors.AppendErr.{AppendErr}
 use Rattle.xt_journal.specs.declared.errors.AppendErr.TheVariants as append
 use Rattle.xt_journal.specs.Access.{disk_of, limit_of}
+use Rattle.xt_journal.specs.Placed.{placed_on}
 use Rattle.xt_journal.specs.Reading.{Reading, Stands, Foreign, Unknown, Damaged}
 
 module _ {D : Type 0} {g : Ghosts D} where
   -- the disk that a load hands back
-  abbrev pub disk_after_load : Result (Journal D g × Vec Placed Global) (LoadErr D) → D
+  abbrev pub disk_after_load : Result (Journal D g × Vec Extent Global) (LoadErr D) → D
   disk_after_load (Ok loaded) = disk_of loaded.0
   disk_after_load (Err (load.DiskFault count disk)) = disk
   disk_after_load (Err (load.NotOurs first disk)) = disk
@@ -29,17 +30,17 @@ module _ {D : Type 0} {g : Ghosts D} where
   disk_after_append (Err (append.Full journal need limit)) = disk_of journal
   disk_after_append (Err (append.OutOfMemory journal)) = disk_of journal
 
-  -- what the disk was read as, unless it failed or memory ran out
-  abbrev pub reading_of : Result (Journal D g × Vec Placed Global) (LoadErr D) → Option Reading
-  reading_of (Ok loaded) = Some (Stands loaded.1.items)
-  reading_of (Err (load.DiskFault count disk)) = None
-  reading_of (Err (load.NotOurs first disk)) = Some (Foreign first)
-  reading_of (Err (load.Layout version disk)) = Some (Unknown version)
-  reading_of (Err (load.Damaged place disk)) = Some (Damaged place)
-  reading_of (Err (load.OutOfMemory disk)) = None
+  -- what a disk with these bytes was read as, unless it failed or memory ran out
+  abbrev pub reading_of : List ℕ → Result (Journal D g × Vec Extent Global) (LoadErr D) → Option Reading
+  reading_of read (Ok loaded) = Some (Stands (placed_on true read loaded.1.items))
+  reading_of read (Err (load.DiskFault count disk)) = None
+  reading_of read (Err (load.NotOurs first disk)) = Some (Foreign first)
+  reading_of read (Err (load.Layout version disk)) = Some (Unknown version)
+  reading_of read (Err (load.Damaged place disk)) = Some (Damaged place)
+  reading_of read (Err (load.OutOfMemory disk)) = None
 
   -- the count of faults that a load reports
-  abbrev pub load_fault : Result (Journal D g × Vec Placed Global) (LoadErr D) → Option ℕ
+  abbrev pub load_fault : Result (Journal D g × Vec Extent Global) (LoadErr D) → Option ℕ
   load_fault (Ok loaded) = None
   load_fault (Err (load.DiskFault count disk)) = Some count
   load_fault (Err (load.NotOurs first disk)) = None

@@ -1,10 +1,13 @@
 pub mod Access
+pub mod Ahead
 pub mod Answers
 pub mod Append
 pub mod Appended
 pub mod Format
 pub mod Reading
+pub mod Nexts
 pub mod Parsed
+pub mod Placed
 pub mod Loaded
 pub mod Located
 pub mod Refused

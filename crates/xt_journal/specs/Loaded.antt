@@ -25,18 +25,18 @@ abbrev pub TellsFresh : List ℕ → Bool → Type 0
 TellsFresh bytes true = bytes ≡ journal_of []
 TellsFresh bytes false = bytes ≢ journal_of []
 
--- one of the calls failed: of at most two that look and three that change, or one that changes on a ready disk
+-- one of the calls failed: of at most one that looks and three that change, or one that changes on a ready disk
 pub record FailedCall (fails : ℕ → ℕ → Bool) (bytes : List ℕ) : Type 0 where
   pub looks : ℕ
   pub changes : ℕ
-  pub two : looks ≤ 2
+  pub looked : looks ≤ 1
   pub three : changes ≤ 3
   pub one : IsReady bytes → changes ≤ 1
   pub fails_there : fails looks changes ≡ true
 
--- two calls looked, and three changed, or one did on a ready disk
+-- one call looked, and three changed, or one did on a ready disk
 pub record MadeCalls (old new : ℕ → ℕ → Bool) (bytes : List ℕ) : Type 0 where
   pub changes : ℕ
   pub three : changes ≤ 3
   pub one : IsReady bytes → changes ≡ 1
-  pub goes_on : (l c : ℕ) → new l c ≡ old (2 + l) (changes + c)
+  pub goes_on : (l c : ℕ) → new l c ≡ old (1 + l) (changes + c)

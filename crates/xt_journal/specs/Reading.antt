@@ -1,14 +1,19 @@
 -- What the bytes of a disk are read as.
-use Rattle.std.specs.Prelude.{ℕ, ◌+◌, ◌<◌, ◌≡◌, ◌≢◌, nat_lt, if◌then◌else◌, Option, Some, None, List, [], ◌∷◌, length, take, drop, map}
+use Rattle.std.specs.Prelude.{ℕ, ◌+◌, ◌<◌, ◌≡◌, ◌≢◌, nat_lt, if◌then◌else◌, Option, Some, None, List, [], ◌∷◌, true, length, take, drop, map}
 use Rattle.byteorder.specs.Endian.{big_number}
 use Rattle.journal_areas.specs.declared.superblock.Slot.{Slot}
 use Rattle.journal_areas.specs.declared.superblock.Superblock.{Superblock}
 use Rattle.journal_areas.specs.Superblocks.{current}
-use Rattle.xt_journal.specs.declared.placed.Placed.{Placed}
+use Rattle.journal_moves.specs.declared.extent.Extent.{Extent}
+use Rattle.xt_journal.specs.Placed.{Placed, placed_on}
 use Rattle.xt_journal.specs.Format.{sign, StandsIn, IsDamaged}
 
 abbrev pub payloads_of : List Placed → List (List ℕ)
 payloads_of placed = map (λ p. p.bytes) placed
+
+-- the payloads that a disk has at these extents
+abbrev pub payloads_on : List ℕ → List Extent → List (List ℕ)
+payloads_on read extents = payloads_of (placed_on true read extents)
 
 -- each payload with the place of its gate, where the first gate is at this place
 abbrev pub placed_from : ℕ → List (List ℕ) → List Placed

@@ -2,14 +2,16 @@ ghost use Rattle.std.specs.Prelude.{IsTrue};
 ghost use Rattle.xt_journal.specs.Format.{EndsAt};
 ghost use Rattle.xt_journal.specs.Located.{IsLocated, located_prop};
 
+use crate::ahead::ReadAhead;
 use crate::append::{Refusal, append_to, need_of};
 use crate::errors::{AppendErr, LoadErr};
 use crate::format::{Found, Trouble};
 use crate::load::load_from;
-use crate::placed::Placed;
 use disk_model::Disk;
 use journal_areas::{Area, Superblock, area_of};
+use journal_moves::Extent;
 use std::alloc::Global;
+use xt_base::OutOfMemory;
 
 /// A journal on a disk. Each crash leaves the payloads that were appended, in order.
 #[derive(Drop)]
@@ -23,32 +25,40 @@ pub struct Journal<D: Disk> {
 }
 
 impl<D: Disk> Journal<D> {
-    ghost use Rattle.std.specs.Prelude.{◌≡◌, ◌≢◌, ◌≤◌, ◌<◌, ◌+◌, ◌^◌, ◌++◌, ◌∷◌, [], ℕ, List, IfOk, IfSome, OnOk, OnErr, IsSome, is_some, length, slice_index};
+    ghost use Rattle.std.specs.Prelude.{◌≡◌, ◌≢◌, ◌≤◌, ◌<◌, ◌+◌, ◌^◌, ◌++◌, ◌∷◌, [], ℕ, true, List, IfOk, IfSome, OnOk, OnErr, IsSome, is_some, length, slice_index};
     ghost use Rattle.disk_model.specs.Disk.{IsImage, LeavesOnly, at_rest};
     ghost use Rattle.xt_base.specs.Faults.{fault_count_after};
     ghost use Rattle.journal_areas.specs.Sites.{area_of};
     ghost use Rattle.xt_journal.specs.Access.{disk_of, place_of, limit_of, superblock_of};
+    ghost use Rattle.xt_journal.specs.Ahead.{size_of, source_of};
     ghost use Rattle.xt_journal.specs.Answers.{IsFullExactly, append_fault, disk_after_append, disk_after_load, load_fault, reading_of, without_memory};
     ghost use Rattle.xt_journal.specs.Append.{IsStopped, IsWithOrWithout};
     ghost use Rattle.journal_records.specs.Calls.{AllSucceed, GoesOn};
     ghost use Rattle.xt_journal.specs.Format.{KeepsJournal, StandsFor, StandsIn, end_in, journal_of, superblock_kind};
     ghost use Rattle.xt_journal.specs.Loaded.{LeavesAsBefore, LeavesDisk, FailedCall, MadeCalls};
-    ghost use Rattle.xt_journal.specs.Reading.{IsTheReading, payloads_of};
+    ghost use Rattle.xt_journal.specs.Placed.{AreWithin, placed_on};
+    ghost use Rattle.xt_journal.specs.Reading.{IsTheReading, payloads_on};
 
-    /// Loads what is on a disk: the payloads whose gates are open, from the first up to the first that isn't. From the superblock on
-    /// it goes on at the area that counts, and what came before that doesn't count.
+    /// Loads what is on a disk, and tells where the payloads are whose gates are open, from the first up to the first that isn't. From
+    /// the superblock on it goes on at the area that counts, and what came before that doesn't count. The payloads aren't read.
     ///
     /// A disk of at most 13 bytes that isn't a journal is made one with no record. Nothing else is written. The
     /// journal doesn't grow past `limit` bytes.
-    pub fn load(alloc: Global, disk: D, limit: u64) -> Result<(Journal<D>, Vec<Placed>), LoadErr<D>>
-        ensures reads { IsTrue D.is_told →
-            IfSome (reading_of result) (IsTheReading (D.kept disk).read) }
+    pub fn load(alloc: Global, disk: D, limit: u64) -> Result<(Journal<D>, Vec<Extent>), LoadErr<D>>
+        ensures reads { IsTrue D.is_told → IfSome (reading_of (D.kept disk).read result)
+            (IsTheReading (D.kept disk).read) }
         ensures keeps { IsTrue D.is_told → IfOk result (λ loaded.
-            KeepsJournal (D.kept (disk_of loaded.0)) (payloads_of loaded.1.items)) }
-        ensures place { IsTrue D.is_told → IfOk result (λ loaded.
-            place_of loaded.0 ≡ end_in (superblock_of loaded.0) (payloads_of loaded.1.items)) }
+            KeepsJournal (D.kept (disk_of loaded.0))
+            (payloads_on (D.kept disk).read loaded.1.items)) }
+        ensures place { IsTrue D.is_told → IfOk result (λ loaded. place_of loaded.0 ≡
+            end_in (superblock_of loaded.0) (payloads_on (D.kept disk).read loaded.1.items)) }
         ensures superblock { IsTrue D.is_told → IfOk result (λ loaded.
-            StandsIn (superblock_of loaded.0) (D.kept disk).read (payloads_of loaded.1.items)) }
+            StandsIn (superblock_of loaded.0) (D.kept disk).read
+            (payloads_on (D.kept disk).read loaded.1.items)) }
+        ensures within { IfOk result (λ loaded. AreWithin (place_of loaded.0) loaded.1.items) }
+        ensures stays { IsTrue D.is_told → IfOk result (λ loaded.
+            placed_on true (D.kept (disk_of loaded.0)).read loaded.1.items
+            ≡ placed_on true (D.kept disk).read loaded.1.items) }
         ensures limit { IfOk result (λ loaded. limit_of loaded.0 ≡ limit) }
         ensures fresh { IsTrue D.is_told → length (D.kept disk).read ≤ 13 →
             IfOk result (λ loaded. D.kept (disk_of loaded.0) ≡ at_rest (journal_of [])) }
@@ -79,7 +89,7 @@ impl<D: Disk> Journal<D> {
                 Found {
                     end,
                     superblock,
-                    placed,
+                    extents,
                 },
             ) => Ok((
                 Journal {
@@ -88,7 +98,7 @@ impl<D: Disk> Journal<D> {
                     limit,
                     superblock,
                 },
-                placed,
+                extents,
             )),
             Err(Trouble::DiskFault) => Err(LoadErr::DiskFault {
                 count: disk.faults(),
@@ -217,6 +227,14 @@ impl<D: Disk> Journal<D> {
         ensures { result.now ≡ disk_of self.now }
     {
         &self.disk
+    }
+
+    /// A read-ahead over the disk, for its payloads.
+    pub fn read_ahead(&self, alloc: Global) -> Result<ReadAhead<'_, D>, OutOfMemory>
+        ensures source { IfOk result (λ ahead. source_of ahead ≡ disk_of self.now) }
+        ensures size { IfOk result (λ ahead. size_of ahead ≡ place_of self.now) }
+    {
+        ReadAhead::new(alloc, &self.disk, self.end)
     }
 
     /// Hands the disk back.

@@ -6,15 +6,16 @@
 //! refuses the bytes by name, and then writes nothing.
 #![tactic(auto)]
 
+mod ahead;
 mod append;
 mod errors;
 mod format;
 mod journal;
 mod load;
-mod placed;
+mod next;
 mod swap;
 mod walk;
 
+pub use ahead::ReadAhead;
 pub use errors::{AppendErr, LoadErr};
 pub use journal::Journal;
-pub use placed::Placed;

@@ -1,11 +1,11 @@
 ghost use Rattle.std.specs.Prelude.{◌≡◌, ◌+◌, ◌-◌, ◌<◌, ◌≤◌, length, take, drop, slice_index, option_map, IfOk, IfSome};
 ghost use Rattle.std.specs.Bool.{OnTrue};
+ghost use Rattle.std.specs.Vec.{vec_capacity};
 ghost use Rattle.xt_parts.specs.Part.{parts_in, bytes_in, part_bytes, word_at, long_at, header_of, is_cut, is_part, read_part};
 
 use crate::{HEADER, PAYLOAD, VERSION};
 use message_ids::MessageId;
-use std::alloc::Global;
-use xt_base::{Boot, FRAME, NodeId, Octets, OutOfMemory};
+use xt_base::{Boot, FRAME, NodeId};
 
 /// What a part says of itself: its message, its index in it from 0, and the length of the message in bytes.
 #[derive(Clone, Copy)]
@@ -16,7 +16,7 @@ pub struct Header {
 }
 
 /// How many parts a message of this length has.
-pub(crate) fn part_count(size: usize) -> usize
+pub fn part_count(size: usize) -> usize
     requires { size ≤ FRAME }
     ensures { result ≡ parts_in size }
 {
@@ -32,22 +32,26 @@ fn payload_len(size: usize, index: usize) -> usize
 }
 
 impl Header {
-    /// The part with this payload.
-    pub(crate) fn part(&self, alloc: Global, payload: &[u8]) -> Result<Octets, OutOfMemory>
+    /// Puts the part with this payload in place of what a buffer has. There has to be room for it, so this takes no memory.
+    pub(crate) fn put(&self, part: &mut Vec<u8>, payload: &[u8])
         requires size { self.now.size ≤ FRAME }
         requires payload { length payload.now ≤ PAYLOAD }
-        ensures { IfOk result (λ bytes. bytes ≡ part_bytes self.now payload.now) }
+        requires room { HEADER + length payload.now ≤ vec_capacity part.old }
+        ensures part { part.new.items ≡ part_bytes self.now payload.now }
+        ensures room { vec_capacity part.old ≤ vec_capacity part.new }
     {
         let total = part_count(self.size as usize) as u8;
-        let mut bytes = Vec::with_capacity(alloc, HEADER + payload.len())?;
-        bytes.push(VERSION)?;
-        bytes.extend_from_slice(&self.id.sender.0.to_be_bytes())?;
-        bytes.extend_from_slice(&self.id.boot.0.to_be_bytes())?;
-        bytes.extend_from_slice(&self.id.number.to_be_bytes())?;
-        bytes.extend_from_slice(&[self.index, total])?;
-        bytes.extend_from_slice(&self.size.to_be_bytes())?;
-        bytes.extend_from_slice(payload)?;
-        Ok(Octets::from(bytes))
+        part.clear();
+        part.push(VERSION).unwrap();
+        part.extend_from_slice(&self.id.sender.0.to_be_bytes())
+            .unwrap();
+        part.extend_from_slice(&self.id.boot.0.to_be_bytes())
+            .unwrap();
+        part.extend_from_slice(&self.id.number.to_be_bytes())
+            .unwrap();
+        part.extend_from_slice(&[self.index, total]).unwrap();
+        part.extend_from_slice(&self.size.to_be_bytes()).unwrap();
+        part.extend_from_slice(payload).unwrap();
     }
 }
 

@@ -1,19 +1,22 @@
-use Rattle.std.proofs.Common.{◌∙◌, ◌+◌, arith}
-use Rattle.journal_moves.proofs.Areas.{next_size, first_fit}
+use Rattle.std.proofs.Common.{◌+◌, ap, arith, drop}
+use Rattle.journal_moves.specs.Gathering.{size_of_area}
+use Rattle.journal_moves.proofs.Areas.{area_some, fits, next}
 use Rattle.journal_moves.proofs.area.size_of.Goals as goal
+
+pub len-requires : goal.len-requires
+len-requires c = omega (arith, c.requires, fits c.args.payloads.now c.loop-payload.payload-index c.payload-item.result c.loop-payload-test.true c.payload-item.is)
+
+pub overflow_add-len : goal.overflow_add-len
+overflow_add-len c = omega (arith, c.requires, c.len.ensures, fits c.args.payloads.now c.loop-payload.payload-index c.payload-item.result c.loop-payload-test.true c.payload-item.is)
 
 pub returns-in-None : goal.returns-in-None
 returns-in-None c =
+    let i = c.loop-payload.payload-index in
     omega (
       arith,
       c.in-None.ensures,
-      next_size c.args.payloads.now c.loop-payload.payload-index c.payload-item.result c.as_slice.result.now c.loop-payload.size c.loop-payload-test.true c.payload-item.is c.as_slice.ensures
-          c.loop-payload.invariant,
-      first_fit c.args.payloads.now (c.loop-payload.payload-index + 1),
+      c.len.ensures,
+      c.loop-payload.invariant,
+      ap size_of_area (next c.args.payloads.now i c.payload-item.result c.loop-payload-test.true c.payload-item.is),
+      area_some (drop (i + 1) c.args.payloads.now),
     )
-
-pub loop-payload-preserved : goal.loop-payload-preserved
-loop-payload-preserved c =
-    c.in-Some.ensures.1
-    ∙ next_size c.args.payloads.now c.loop-payload.payload-index c.payload-item.result c.as_slice.result.now c.loop-payload.size c.loop-payload-test.true c.payload-item.is c.as_slice.ensures
-    c.loop-payload.invariant

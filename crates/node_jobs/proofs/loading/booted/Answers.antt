@@ -7,6 +7,7 @@ use Rattle.node_runs.specs.Runs.{grown}
 use Rattle.node_runs.proofs.Keeping.{keeps_now, stays_closed}
 use Rattle.node_loop.specs.Stores.{journal_at}
 use Rattle.node_jobs.specs.Boots.{stored_boot, next_boot, boot_record}
+use Rattle.node_jobs.proofs.Bare.{boot_known, stored_bare}
 use Rattle.node_jobs.proofs.Boots.{cannot_put, last_stored}
 use Rattle.node_jobs.proofs.loading.booted.Goals as goal
 
@@ -14,7 +15,7 @@ pub returns-then-last-ge-LAST_BOOT-clause-ends : goal.returns-then-last-ge-LAST_
 returns-then-last-ge-LAST_BOOT-clause-ends g c =
     let D = g.D.Disk in
     let store = c.args.store in
-    let last : c.stored_boot-last.result ≡ stored_boot (records_of store) = c.stored_boot-last.ensures ∙ ap stored_boot c.records.ensures in
+    let last : c.stored_boot-last.result ≡ stored_boot (records_of store) = c.stored_boot-last.ensures ∙ ap stored_boot c.records.ensures ∙ stored_bare (records_of store) in
     let late : 4611686018427387903 ≤ c.stored_boot-last.result = search rules in
     record {
       met = None;
@@ -30,12 +31,12 @@ returns-in-Ok-clause-boots g c =
     let store = c.args.store in
     let new = c.in-Ok.store in
     let put = c.in-Ok.ensures in
-    let last : c.stored_boot-last.result ≡ stored_boot (records_of store) = c.stored_boot-last.ensures ∙ ap stored_boot c.records.ensures in
+    let last : c.stored_boot-last.result ≡ stored_boot (records_of store) = c.stored_boot-last.ensures ∙ ap stored_boot c.records.ensures ∙ stored_bare (records_of store) in
     let early : c.stored_boot-last.result < 4611686018427387903 = search rules in
     let rec : kept.Boot (record { 0 = c.stored_boot-last.result + 1 }) ≡ boot_record (records_of store) =
     ap (λ (n : ℕ). kept.Boot (record { 0 = n + 1 })) last in
     record {
-      records = put.kept ∙ ap (λ (r : Record). records_of store ++ r ∷ []) rec;
+      records = put.kept ∙ ap (λ (r : Record). records_of store ++ r ∷ []) (boot_known D.is_told (record { 0 = c.stored_boot-last.result + 1 }) ∙ rec);
       boot_is = ap (λ (n : ℕ). record { 0 = n + 1 }) last;
       fits = omega (arith, early);
       journal = put.journal ∙ ap (λ (r : Record). grown (journal_at store) (Some r)) rec;
@@ -50,7 +51,7 @@ returns-in-Ok-clause-boots g c =
 pub returns-clause-ends : goal.returns-clause-ends
 returns-clause-ends g c =
     let store = c.args.store in
-    let last : c.stored_boot-last.result ≡ stored_boot (records_of store) = c.stored_boot-last.ensures ∙ ap stored_boot c.records.ensures in
+    let last : c.stored_boot-last.result ≡ stored_boot (records_of store) = c.stored_boot-last.ensures ∙ ap stored_boot c.records.ensures ∙ stored_bare (records_of store) in
     let early : c.stored_boot-last.result < 4611686018427387903 = search rules in
     let fits : FitsBoot (next_boot (records_of store)) = omega (arith, early, last) in
     let put = c.in-Err.ensures in

@@ -1,8 +1,10 @@
 use Rattle.std.proofs.Common.{ap, subst, sym, refl, ◌∙◌}
-use Rattle.server_rows.specs.Metadata.{MrcNode}
+use Rattle.object_store.specs.Access.{records_of}
+use Rattle.server_rows.specs.Metadata.{MrcNode, catalogue_of}
 use Rattle.node_loop.proofs.Coming.{cause_from}
 use Rattle.node_roles.specs.Roles.{mrc_role}
 use Rattle.node_jobs.specs.Jobs.{HasSinkCause, ended_early}
+use Rattle.node_jobs.proofs.Bare.{mrc_bare, taken_bare}
 use Rattle.node_jobs.proofs.Jobs.{served_sink}
 use Rattle.node_jobs.proofs.Serving.{can_be_taken, has_done, mrc_ready, mrc_told, not_started}
 use Rattle.node_jobs.proofs.metadata.serve_metadata.Goals as goal
@@ -10,13 +12,14 @@ use Rattle.node_jobs.proofs.metadata.serve_metadata.Goals as goal
 pub start-requires-clause-can : goal.start-requires-clause-can
 start-requires-clause-can g c =
     let ready = c.in-Ok-get_ready.ensures.ready in
-    can_be_taken ready.records _ ready.are ready.fits (c.records.ensures ∙ ready.all_are)
+    taken_bare _ (records_of c.in-Ok-get_ready.ready.store) c.records.ensures (can_be_taken ready.records _ ready.are ready.fits ready.all_are)
 
 pub serve-requires-clause-runs : goal.serve-requires-clause-runs
 serve-requires-clause-runs g c =
     let ready = c.in-Ok-get_ready.ensures.ready in
     mrc_ready ready.records _ ready.are ready.fits ready.all_are c.args.serving.now.key _ _ c.in-Ok-get_ready.ensures.small
-    (mrc_told _ _ _ _ _ _ c.in-Ok-start.ensures c.as_slice.ensures c.records.ensures)
+    (mrc_told c.args.serving.now.key _ (records_of c.in-Ok-get_ready.ready.store) c.records.result.now _ _ c.in-Ok-start.ensures c.as_slice.ensures
+    (ap (catalogue_of c.args.serving.now.key) c.records.ensures ∙ mrc_bare c.args.serving.now.key (records_of c.in-Ok-get_ready.ready.store)))
 
 pub returns-in-Err-clause-job : goal.returns-in-Err-clause-job
 returns-in-Err-clause-job g c = ended_early c.in-Err.ensures.ends
@@ -28,10 +31,12 @@ returns-in_default-start-clause-job g c =
 
 pub returns-clause-job : goal.returns-clause-job
 returns-clause-job g c =
-    let told = mrc_told _ _ _ _ _ _ c.in-Ok-start.ensures c.as_slice.ensures c.records.ensures in
+    let told =
+    mrc_told c.args.serving.now.key _ (records_of c.in-Ok-get_ready.ready.store) c.records.result.now _ _ c.in-Ok-start.ensures c.as_slice.ensures
+    (ap (catalogue_of c.args.serving.now.key) c.records.ensures ∙ mrc_bare c.args.serving.now.key (records_of c.in-Ok-get_ready.ready.store)) in
     has_done _ _ _ _ _ _ _ _ _ _ c.in-Ok-get_ready.ensures.ready _ _ _ _ _ _
     (ap (λ (m : MrcNode). mrc_role m.secret) told) (ap (λ (m : MrcNode). m.state) told)
-    c.new.ensures c.in-Ok-ears_with.ensures c.period_of-period.ensures.value refl refl c.serve.ensures.keeps c.serve.ensures.disk_cause
+    c.new-2.ensures c.in-Ok-ears_with.ensures c.period_of-period.ensures.value refl refl c.serve.ensures.keeps c.serve.ensures.disk_cause
 
 pub returns-clause-cause : goal.returns-clause-cause
 returns-clause-cause g c =
@@ -41,4 +46,4 @@ pub returns-clause-sink : goal.returns-clause-sink
 returns-clause-sink g c =
     let sink = g.K.Sink.fault_count c.args.out.now in
     subst (λ n. HasSinkCause sink n c.serve.result.0) (sym c.in-Ok-get_ready.ensures.faults.2)
-    (served_sink _ _ _ _ _ _ _ _ _ _ _ _ _ sink c.serve.result.0 c.serve.ensures.served)
+    (served_sink _ _ _ _ _ _ _ _ _ _ _ _ _ _ sink c.serve.result.0 c.serve.ensures.served)

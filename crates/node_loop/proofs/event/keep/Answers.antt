@@ -1,7 +1,10 @@
 use Rattle.std.proofs.Common.{None, sym, ap, subst, ◌∙◌, ◌≡◌, ◌++◌, ◌∷◌, []}
+use Rattle.disk_model.specs.Disk.{LeavesOnly}
+use Rattle.xt_messages.specs.declared.record.Record.{Record}
 use Rattle.xt_journal.specs.Access as journal
 use Rattle.object_store.specs.Access.{records_of, disk_of}
-use Rattle.node_runs.specs.Keeping.{KeepsOn}
+use Rattle.object_store.proofs.Stored.{as_known_there}
+use Rattle.node_runs.specs.Keeping.{KeepsOn, StandsForOne}
 use Rattle.node_runs.proofs.Keeping.{stays_closed, puts_one}
 use Rattle.node_loop.proofs.event.keep.Goals as goal
 
@@ -10,8 +13,11 @@ returns-in-Ok-clause-keeps g c =
     let D = g.D.Disk in
     let old = c.args.store in
     let new = c.in-Ok.store in
-    subst (λ rs. KeepsOn D.is_told D.moment D.left_since (disk_of old) (disk_of new) (records_of old ∷ rs ∷ [])) (sym c.in-Ok.ensures.end.records)
-    (puts_one D.is_told D.kept D.moment D.left_since (disk_of old) (disk_of new) (records_of old) c.args.rec.now c.in-Ok.ensures.any_moment)
+    let put = puts_one D.is_told D.kept D.moment D.left_since (disk_of old) (disk_of new) (records_of old) c.args.rec.now c.in-Ok.ensures.any_moment in
+    λ told.
+    let same : records_of old ++ c.args.rec.now ∷ [] ≡ records_of new =
+    sym (c.in-Ok.ensures.end.records ∙ ap (λ (r : Record). records_of old ++ r ∷ []) (as_known_there D.is_told c.args.rec.now told)) in
+    subst (λ rs. LeavesOnly D.moment D.left_since (disk_of old) (disk_of new) (StandsForOne (records_of old ∷ rs ∷ []))) same (put told)
 
 pub returns-in-Err-Broken-clause-leaves : goal.returns-in-Err-Broken-clause-leaves
 returns-in-Err-Broken-clause-leaves g c =

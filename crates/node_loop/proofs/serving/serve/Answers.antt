@@ -23,7 +23,7 @@ loop-init g c =
       refl,
       refl,
       refl,
-      begins_on_disk (g.N.Node.role s.node) s.sender.boot c.args.bounds.period c.args.bounds.turns start _ _ _ _ D.is_told D.kept D.moment D.left_since (disk_of store)
+      begins_on_disk g.D.Disk.is_told (g.N.Node.role s.node) s.sender.boot c.args.bounds.period c.args.bounds.turns start _ _ _ _ D.kept D.moment D.left_since (disk_of store)
           (keeps_now D.is_told D.kept D.moment D.left_since (disk_of store) (records_of store) store.keeps
           (λ image told left. g.met.D.Disk.only_now (disk_of store) image told left)),
     )
@@ -47,7 +47,7 @@ pub returns-in-Err-clause-served : goal.returns-in-Err-clause-served
 returns-in-Err-clause-served g c =
     let s = c.args.site.now in
     let start = standing (g.N.Node.state s.node) (records_of c.args.store) (journal_at c.args.store) s.own s.ears s.clock s.due s.sender.count s.woken in
-    is_served (g.N.Node.role s.node) s.sender.boot c.args.bounds.period c.args.bounds.turns start _ _ _ _ _ _ _ _ _ _
+    is_served g.D.Disk.is_told (g.N.Node.role s.node) s.sender.boot c.args.bounds.period c.args.bounds.turns start _ _ _ _ _ _ _ _ _ _
     c.loop.invariant.10.0 _ _ _ _ _ (g.N.Node.role c.loop.site.node) c.loop.site.sender.boot c.loop.invariant.0 c.loop.invariant.1 _ c.in-Err.ensures.ended
 
 pub returns-in-Err-clause-cause : goal.returns-in-Err-clause-cause
@@ -70,8 +70,8 @@ loop-preserved g c =
       e.faults.0 ∙ inv.7,
       e.faults.1 ∙ inv.8,
       e.disk ∙ inv.9,
-      comes_on_disk (g.N.Node.role s.node) s.sender.boot c.args.bounds.period c.args.bounds.turns start _ _ _ _
-          D.is_told D.kept D.moment D.left_since (disk_of c.args.store) (disk_of c.loop.store) _ _ _ _ _ _ _ inv.10
+      comes_on_disk g.D.Disk.is_told (g.N.Node.role s.node) s.sender.boot c.args.bounds.period c.args.bounds.turns start _ _ _ _
+          D.kept D.moment D.left_since (disk_of c.args.store) (disk_of c.loop.store) _ _ _ _ _ _ _ inv.10
           _ _ _ _ (g.N.Node.role c.loop.site.node) c.loop.site.sender.boot inv.0 inv.1 _ _ e.passed e.keeps
           (keeps_now D.is_told D.kept D.moment D.left_since (disk_of c.in-Ok.kept) (records_of c.in-Ok.kept) c.in-Ok.kept.keeps
           (λ image told left. g.met.D.Disk.only_now (disk_of c.in-Ok.kept) image told left)),
@@ -87,7 +87,7 @@ pub returns-clause-served : goal.returns-clause-served
 returns-clause-served g c =
     let s = c.args.site.now in
     let start = standing (g.N.Node.state s.node) (records_of c.args.store) (journal_at c.args.store) s.own s.ears s.clock s.due s.sender.count s.woken in
-    gave_up (g.N.Node.role s.node) s.sender.boot c.args.bounds.period c.args.bounds.turns start _ _ _ _ _ _ _ _ _ _ c.loop.invariant.10.0
+    gave_up g.D.Disk.is_told (g.N.Node.role s.node) s.sender.boot c.args.bounds.period c.args.bounds.turns start _ _ _ _ _ _ _ _ _ _ c.loop.invariant.10.0
 
 pub returns-clause-cause : goal.returns-clause-cause
 returns-clause-cause g c = (c.loop.invariant.7, c.loop.invariant.8)
@@ -98,8 +98,8 @@ returns-in-Err-clause-keeps g c =
     let s = c.args.site.now in
     let start = standing (g.N.Node.state s.node) (records_of c.args.store) (journal_at c.args.store) s.own s.ears s.clock s.due s.sender.count s.woken in
     let inv = c.loop.invariant in
-    is_served_on (g.N.Node.role s.node) s.sender.boot c.args.bounds.period c.args.bounds.turns start _ _ _ _ _ _ _ _ _ _ inv.10.0 _ _ _ _
-    D.is_told D.kept D.moment D.left_since g.met.D.Disk.counts_now (disk_of c.args.store) (disk_of c.loop.store) _ inv.10.1
+    is_served_on g.D.Disk.is_told (g.N.Node.role s.node) s.sender.boot c.args.bounds.period c.args.bounds.turns start _ _ _ _ _ _ _ _ _ _ inv.10.0 _ _ _ _
+    D.kept D.moment D.left_since g.met.D.Disk.counts_now (disk_of c.args.store) (disk_of c.loop.store) _ inv.10.1
     (g.N.Node.role c.loop.site.node) c.loop.site.sender.boot inv.0 inv.1 _ c.in-Err.ensures.ended
 
 pub returns-clause-keeps : goal.returns-clause-keeps
@@ -109,7 +109,7 @@ returns-clause-keeps g c =
     let s = c.args.site.now in
     let start = standing (g.N.Node.state s.node) (records_of c.args.store) (journal_at c.args.store) s.own s.ears s.clock s.due s.sender.count s.woken in
     let inv = c.loop.invariant in
-    gave_up_on (g.N.Node.role s.node) s.sender.boot c.args.bounds.period c.args.bounds.turns start _ _ _ _ _ _ _ _ _ _ inv.10.0
-    D.is_told D.kept D.moment D.left_since g.met.D.Disk.counts_now (disk_of c.args.store) (disk_of store) c.close.result inv.10.1
+    gave_up_on g.D.Disk.is_told (g.N.Node.role s.node) s.sender.boot c.args.bounds.period c.args.bounds.turns start _ _ _ _ _ _ _ _ _ _ inv.10.0
+    D.kept D.moment D.left_since g.met.D.Disk.counts_now (disk_of c.args.store) (disk_of store) c.close.result inv.10.1
     (stays_closed D.is_told D.kept D.moment D.left_since (disk_of store) c.close.result (records_of store) None c.close.ensures store.keeps
     (λ image told left. g.met.D.Disk.only_now (disk_of store) image told left))

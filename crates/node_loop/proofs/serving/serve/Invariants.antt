@@ -19,9 +19,9 @@ invariant-loop g l =
     × (g.L.Link.fault_count l.link ≡ g.L.Link.fault_count l.fn.link)
     × (g.C.Clock.fault_count l.clock ≡ g.C.Clock.fault_count l.fn.clock)
     × (g.D.Disk.fault_count (disk_of l.store) ≡ g.D.Disk.fault_count (disk_of l.fn.store))
-    × HasComeOn (g.N.Node.role l.fn.site.node) l.fn.site.sender.boot l.bounds.period l.bounds.turns
+    × HasComeOn g.D.Disk.is_told (g.N.Node.role l.fn.site.node) l.fn.site.sender.boot l.bounds.period l.bounds.turns
     (standing (g.N.Node.state l.fn.site.node) (records_of l.fn.store) (journal_at l.fn.store) l.fn.site.own l.fn.site.ears l.fn.site.clock l.fn.site.due l.fn.site.sender.count l.fn.site.woken)
     (g.L.Link.given l.fn.link) (g.L.Link.sent l.fn.link) (g.L.Link.loss_count l.fn.link) (g.C.Clock.readings l.fn.clock)
-    g.D.Disk.is_told g.D.Disk.kept g.D.Disk.moment g.D.Disk.left_since (disk_of l.fn.store) (disk_of l.store) l.spent
+    g.D.Disk.kept g.D.Disk.moment g.D.Disk.left_since (disk_of l.fn.store) (disk_of l.store) l.spent
     (g.L.Link.given l.link) (g.L.Link.sent l.link) (g.L.Link.loss_count l.link) (g.C.Clock.readings l.clock)
     (standing (g.N.Node.state l.site.node) (records_of l.store) (journal_at l.store) l.site.own l.site.ears l.site.clock l.site.due l.site.sender.count l.site.woken)

@@ -11,9 +11,9 @@ pub returns-then-is_free-clause-row : goal.returns-then-is_free-clause-row
 returns-then-is_free-clause-row g c =
     let old = shown c.args.file.now in
     let ask = c.args.ask in
-    let body = body_by (g.B.Bodies.records c.args.bodies.now) in
     let by = free_by old.state.lease (sym c.is_free.ensures ∙ c.if-is_free.true) in
-    λ sealed.
+    λ records agree sealed.
+    let body = body_by records in
     let site = site_at old.awake c.args.now sealed body in
     let row = c.in_ok-ask_without_lease.ensures by.0 by.1 sealed body in
     record {
@@ -25,10 +25,10 @@ pub returns-then-may_serve-clause-row : goal.returns-then-may_serve-clause-row
 returns-then-may_serve-clause-row g c =
     let old = shown c.args.file.now in
     let ask = c.args.ask in
-    let body = body_by (g.B.Bodies.records c.args.bodies.now) in
-    rows_by (λ site s. serve_ask site s ask) (λ site s. ask_rows site s ask) c.args.now body old.awake old.state old.state (shown c.serve_ask.new.file) c.serve_ask.result
-    (λ sealed.
-    let site = site_at old.awake c.args.now sealed body in
+    let agrees = g.B.Bodies.agrees c.serve_ask.new.bodies in
+    rows_by agrees (λ site s. serve_ask site s ask) (λ site s. ask_rows site s ask) c.args.now old.awake old.state old.state (shown c.serve_ask.new.file) c.serve_ask.result
+    (λ records sealed.
+    let site = site_at old.awake c.args.now sealed (body_by records) in
     new_ask site old.state ask (sym c.has.ensures ∙ c.if-has.false) ∙ serves_under site old.state old.state.lease ask (sym c.may_serve.ensures ∙ c.if-may_serve.true))
     c.serve_ask.ensures.row
 
@@ -36,8 +36,8 @@ pub returns-clause-row : goal.returns-clause-row
 returns-clause-row g c =
     let old = shown c.args.file.now in
     let ask = c.args.ask in
-    let body = body_by (g.B.Bodies.records c.args.bodies.now) in
-    λ sealed.
+    λ records agree sealed.
+    let body = body_by records in
     let site = site_at old.awake c.args.now sealed body in
     let row = c.in_ok-ask_waits.ensures c.args.now sealed body in
     record {

@@ -1,8 +1,9 @@
-use Rattle.std.proofs.Common.{◌≡◌, ◌∙◌, ap, sym, refl, None, Some, Option, Bool}
+use Rattle.std.proofs.Common.{◌≡◌, ◌∙◌, ap, sym, refl, List, None, Some, Option, Bool}
 use Rattle.xt_base.specs.declared.ids.NodeId.{NodeId}
 use Rattle.xt_base.specs.declared.ids.FileId.{FileId}
 use Rattle.xt_messages.specs.declared.file.Location.{Location}
 use Rattle.xt_messages.specs.declared.file.Capability.{Capability}
+use Rattle.xt_messages.specs.declared.record.Record.{Record}
 use Rattle.xt_protocol.specs.declared.turned.Turned.{Turned}
 use Rattle.xt_protocol.specs.SeenBodies.{body_by}
 use Rattle.xt_protocol.specs.Turns.{tells}
@@ -16,11 +17,11 @@ use Rattle.osd_files.proofs.asks.handle_ask.Goals as goal
 
 pub returns-in_ok-tells-in-Some-clause-row : goal.returns-in_ok-tells-in-Some-clause-row
 returns-in_ok-tells-in-Some-clause-row g c =
-    λ test is.
+    λ records agree test is.
     let f = c.args.file.now in
     let old = shown f in
     let capability = c.args.capability.now in
-    let site = site_at old.awake c.args.now test (body_by (g.B.Bodies.records c.args.bodies.now)) in
+    let site = site_at old.awake c.args.now test (body_by records) in
     let reply = c.in-Some.reply in
     let told : Some reply ≡ refusal_of site f.lead.location capability c.args.op.now =
     c.in-Some.ensures site (sym c.node-node.ensures) refl is ∙ ap (λ (l : Option Location). refusal_of site l capability c.args.op.now) c.location-stored.ensures in
@@ -44,13 +45,15 @@ returns-in-None-clause-row g c =
     let id = c.args.id in
     let asked = c.args.op.now in
     let capability = c.args.capability.now in
-    let body = body_by (g.B.Bodies.records c.args.bodies.now) in
-    let P : Turned → Type 0 = λ turned. IsRowBy (λ site s. ask_let_in site s id capability asked None) now body old new turned in
-    let Q : Turned → Type 0 = λ turned. (test : Capability → Bool) → test capability ≡ c.args.sealed → IsStep (λ site s. handle_ask site s id capability asked) (site_at old.awake now test body) old new turned in
-    let all : (turned : Turned) → P turned → Q turned = λ turned row test is.
-    let site = site_at old.awake now test body in
+    let agrees = g.B.Bodies.agrees c.let_in.new.bodies in
+    let P : Turned → Type 0 = λ turned. (records : List Record) → agrees records → IsRowBy (λ site s. ask_let_in site s id capability asked None) now (body_by records) old new turned in
+    let Q : Turned → Type 0 = λ turned. (records : List Record) → agrees records → (test : Capability → Bool) → test capability ≡ c.args.sealed
+    → IsStep (λ site s. handle_ask site s id capability asked) (site_at old.awake now test (body_by records)) old new turned in
+    let all : (turned : Turned) → P turned → Q turned = λ turned of records agree test is.
+    let row = of records agree test in
+    let site = site_at old.awake now test (body_by records) in
     let told : None ≡ refusal_of site f.lead.location capability asked =
     c.in-None.ensures site (sym c.node-node.ensures) refl is ∙ ap (λ (l : Option Location). refusal_of site l capability asked) c.location-stored.ensures in
-    record { here = (row test).here; step = handled site old.state id capability asked None told ∙ (row test).step }
+    record { here = row.here; step = handled site old.state id capability asked None told ∙ row.step }
     in
     if_ok P Q c.let_in.result all c.let_in.ensures.row

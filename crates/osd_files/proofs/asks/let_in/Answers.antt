@@ -23,7 +23,7 @@ returns-clause-row g c =
     let old = shown f in
     let now = c.args.now in
     let capability = c.args.capability.now in
-    let body = body_by (g.B.Bodies.records c.args.bodies.now) in
+    let agrees = g.B.Bodies.agrees c.ask_rows-rest.new.bodies in
     let ask = c.waiting_ask-ask.result in
     let kept = c.in_ok-kept.kept in
     let list = list_after f.lead.location capability.location in
@@ -34,13 +34,13 @@ returns-clause-row g c =
     let used : LeadView → FileState = λ lead. record (with_lead old lead).state { used = now } in
     let row : Site → FileState → FileStep = λ site s. ask_rows site s ask in
     let whole : Site → FileState → FileStep = λ site s. ask_let_in site s c.args.id capability c.args.op.now None in
-    joins_by row whole now body old.awake old.state (used c.list_once.new.self) (shown c.ask_rows-rest.new.file) kept c.ask_rows-rest.result c.join_rest.result
-    (λ sealed.
-    let site = site_at old.awake now sealed body in
+    joins_by agrees row whole now old.awake old.state (used c.list_once.new.self) (shown c.ask_rows-rest.new.file) kept c.ask_rows-rest.result c.join_rest.result
+    (λ records sealed.
+    let site = site_at old.awake now sealed (body_by records) in
     let_row site old.state c.args.id capability c.args.op.now kept list ask is refl
     (c.waiting_ask-ask.ensures.row site refl (sym c.times.ensures) ∙ ap (λ (o : Op). waiting_ask site c.args.id capability.epoch o) c.in_ok-asked.ensures)
     ∙ ap (λ (lead : LeadView). behind_it kept (row site (used lead))) (sym c.list_once.ensures.state))
     c.ask_rows-rest.ensures.row c.join_rest.ensures.joined
 
 pub returns-clause-reads : goal.returns-clause-reads
-returns-clause-reads g c = reads_as (g.B.Bodies.records) (g.B.Bodies.fault_count) _ _ _ _ c.join_rest.ensures.failed c.ask_rows-rest.ensures.reads
+returns-clause-reads g c = reads_as (g.B.Bodies.agrees) (g.B.Bodies.fault_count) _ _ _ _ c.join_rest.ensures.failed c.ask_rows-rest.ensures.reads

@@ -14,13 +14,12 @@ use Rattle.osd_files.proofs.asks.serve_read.Goals as goal
 
 pub returns-clause-turned : goal.returns-clause-turned
 returns-clause-turned g c =
-    λ own held.
+    λ records agree own held.
     let f = c.args.file.now in
     let ask = c.args.ask.now in
-    let records = g.B.Bodies.records c.args.bodies.now in
     let at : NodeId → FileId → Place = λ n x. record { node = n; file = x; stripe = stripe_of f.lead.location } in
     let here : place_of f.lead ≡ at f.awake.node f.replica.file = ap (λ (n : NodeId). at n f.lead.file) f.node ∙ ap (at f.awake.node) f.file in
     let stands = ground_at (shown f) records own held in
     c.in_ok-read_answer.ensures stands (sym c.node-node.ensures) (sym c.file-id.ensures)
-    ∙ ap (λ (answer : Option Reply). read_answer stands ask.id answer) (c.in_ok-answer.ensures.value own held)
+    ∙ ap (λ (answer : Option Reply). read_answer stands ask.id answer) (c.in_ok-answer.ensures.value records agree own held)
     ∙ ap (λ (p : Place). read_answer stands ask.id (reads (ground p records own held) f.lead.primary ask.op)) here

@@ -17,20 +17,19 @@ use Rattle.osd_files.proofs.asks.serve_write.Goals as goal
 
 pub returns-in-Some-led-clause-row : goal.returns-in-Some-led-clause-row
 returns-in-Some-led-clause-row g c =
-    λ so sealed.
+    λ records agree so sealed.
     let f = c.args.file.now in
     let old = shown f in
     let ask = c.args.ask in
-    let kept = g.B.Bodies.records c.args.bodies.now in
-    let site = site_at old.awake c.args.now sealed (body_by kept) in
+    let site = site_at old.awake c.args.now sealed (body_by records) in
     let new = c.issue.new.self in
     let turned = c.in-Some-led.turned in
     let led_by : Turned → Led = λ turned. record { primary = new.primary; turned = turned } in
-    let ground : NodeId → FileId → Ground = λ n x. record { place = record { node = n; file = x; stripe = stripe_of f.lead.location }; own = f.replica.head; held = f.replica.held; body = body_by kept x } in
+    let ground : NodeId → FileId → Ground = λ n x. record { place = record { node = n; file = x; stripe = stripe_of f.lead.location }; own = f.replica.head; held = f.replica.held; body = body_by records x } in
     let led : writes (ground f.awake.node f.replica.file) f.lead.primary ask.id ask.epoch ask.op ≡ Some (record { primary = new.primary; turned = turned }) =
     ap (λ (n : NodeId). writes (ground n f.replica.file) f.lead.primary ask.id ask.epoch ask.op) (sym f.node)
     ∙ ap (λ (x : FileId). writes (ground f.lead.node x) f.lead.primary ask.id ask.epoch ask.op) (sym f.file)
-    ∙ sym (c.in_ok-led.ensures.value f.replica.head f.replica.held)
+    ∙ sym (c.in_ok-led.ensures.value records agree f.replica.head f.replica.held)
     ∙ ap (λ (o : Option Turned). option_map led_by o) c.in-Some-led.is in
     let asks = c.mark_issued.new.asks in
     let marked = c.mark_issued.ensures ∙ ap (λ (b : Bool). asks_once_done f.asks b ask) c.has_issued.ensures in
@@ -39,22 +38,21 @@ returns-in-Some-led-clause-row g c =
 
 pub returns-in_ok-ask_waits-in-None-clause-row : goal.returns-in_ok-ask_waits-in-None-clause-row
 returns-in_ok-ask_waits-in-None-clause-row g c =
-    λ so sealed.
+    λ records agree so sealed.
     let f = c.args.file.now in
     let old = shown f in
     let ask = c.args.ask in
-    let kept = g.B.Bodies.records c.args.bodies.now in
-    let site = site_at old.awake c.args.now sealed (body_by kept) in
+    let site = site_at old.awake c.args.now sealed (body_by records) in
     let new = c.issue.new.self in
     let led_by : Turned → Led = λ turned. record { primary = new.primary; turned = turned } in
-    let ground : NodeId → FileId → Ground = λ n x. record { place = record { node = n; file = x; stripe = stripe_of f.lead.location }; own = f.replica.head; held = f.replica.held; body = body_by kept x } in
+    let ground : NodeId → FileId → Ground = λ n x. record { place = record { node = n; file = x; stripe = stripe_of f.lead.location }; own = f.replica.head; held = f.replica.held; body = body_by records x } in
     let led : writes (ground f.awake.node f.replica.file) f.lead.primary ask.id ask.epoch ask.op ≡ None =
     ap (λ (n : NodeId). writes (ground n f.replica.file) f.lead.primary ask.id ask.epoch ask.op) (sym f.node)
     ∙ ap (λ (x : FileId). writes (ground f.lead.node x) f.lead.primary ask.id ask.epoch ask.op) (sym f.file)
-    ∙ sym (c.in_ok-led.ensures.value f.replica.head f.replica.held)
+    ∙ sym (c.in_ok-led.ensures.value records agree f.replica.head f.replica.held)
     ∙ ap (λ (o : Option Turned). option_map led_by o) c.in-None.is in
     let same : new ≡ f.lead = subst (λ (o : Option Turned). IfNone o (new ≡ f.lead)) c.in-None.is c.in_ok-led.ensures.waits in
-    let row = c.in_ok-ask_waits-in-None.ensures c.args.now sealed (body_by kept) in
+    let row = c.in_ok-ask_waits-in-None.ensures c.args.now sealed (body_by records) in
     record {
       here = row.here;
       step =

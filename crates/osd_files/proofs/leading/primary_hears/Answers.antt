@@ -1,6 +1,7 @@
-use Rattle.std.proofs.Common.{◌≡◌, ◌∙◌, ap, refl, subst, sym, Bool, true, None}
+use Rattle.std.proofs.Common.{◌≡◌, ◌∙◌, ap, refl, subst, sym, List, Bool, true, None}
 use Rattle.std.specs.List.{AllByRecursion}
 use Rattle.xt_messages.specs.declared.file.Capability.{Capability}
+use Rattle.xt_messages.specs.declared.record.Record.{Record}
 use Rattle.xt_protocol.specs.LeaseRows.{LeaseState}
 use Rattle.xt_protocol.specs.declared.turned.Turned.{Turned}
 use Rattle.xt_protocol.specs.SeenBodies.{body_by}
@@ -34,20 +35,23 @@ primary_led-requires-clause-stored g c =
 pub asks_follow-followed-requires-clause-turn : goal.asks_follow-followed-requires-clause-turn
 asks_follow-followed-requires-clause-turn g c =
     let f = c.args.file.now in
-    let same = same_lease f.awake c.args.now no_seal (g.B.Bodies.records c.args.bodies.now) (shown f).state c.args.from c.args.content.now (shown c.primary_led.new.file) c.in_ok-led.led (c.in_ok-led.ensures.row no_seal) in
+    let one = g.B.Bodies.some c.primary_led.new.bodies in
+    let same = same_lease f.awake c.args.now no_seal one.0 (shown f).state c.args.from c.args.content.now (shown c.primary_led.new.file) c.in_ok-led.led (c.in_ok-led.ensures.row one.0 one.1 no_seal) in
     let P : LeaseState → Type 0 = λ l. HasTurn l c.args.now in
     subst P same (sym c.has_turn.ensures ∙ c.if-not-has_turn.false)
 
 pub asks_follow-followed-requires-clause-stored : goal.asks_follow-followed-requires-clause-stored
 asks_follow-followed-requires-clause-stored g c =
     let f = c.args.file.now in
-    let same = same_list f.awake c.args.now no_seal (g.B.Bodies.records c.args.bodies.now) (shown f).state c.args.from c.args.content.now (shown c.primary_led.new.file) c.in_ok-led.led (c.in_ok-led.ensures.row no_seal) in
+    let one = g.B.Bodies.some c.primary_led.new.bodies in
+    let same = same_list f.awake c.args.now no_seal one.0 (shown f).state c.args.from c.args.content.now (shown c.primary_led.new.file) c.in_ok-led.led (c.in_ok-led.ensures.row one.0 one.1 no_seal) in
     subst IsStored (sym same) (stored_by_turn f.lease c.args.now f.lead.location (sym c.has_turn.ensures ∙ c.if-not-has_turn.false) c.requires.stored)
 
 pub asks_follow-followed-requires-clause-fits : goal.asks_follow-followed-requires-clause-fits
 asks_follow-followed-requires-clause-fits g c =
     let f = c.args.file.now in
-    let same = same_asks f.awake c.args.now no_seal (g.B.Bodies.records c.args.bodies.now) (shown f).state c.args.from c.args.content.now (shown c.primary_led.new.file) c.in_ok-led.led (c.in_ok-led.ensures.row no_seal) in
+    let one = g.B.Bodies.some c.primary_led.new.bodies in
+    let same = same_asks f.awake c.args.now no_seal one.0 (shown f).state c.args.from c.args.content.now (shown c.primary_led.new.file) c.in_ok-led.led (c.in_ok-led.ensures.row one.0 one.1 no_seal) in
     let P : Asks → Type 0 = λ a. AllByRecursion IsWithinLimits a.waiting in
     subst P same c.requires.fits
 
@@ -58,36 +62,34 @@ returns-clause-row g c =
     let from = c.args.from in
     let content = c.args.content.now in
     let by = held_by_turn f.lease c.args.now (sym c.has_turn.ensures ∙ c.if-not-has_turn.false) in
-    let records = g.B.Bodies.records in
+    let agrees = g.B.Bodies.agrees c.asks_follow-followed.new.bodies in
     let mid = shown c.primary_led.new.file in
     let new = shown c.asks_follow-followed.new.file in
     let led = c.in_ok-led.led in
-    let before = records c.args.bodies.now in
     let was = c.is_ready-was_ready.result in
-    let P : Turned → Type 0 = λ turned. AsksFollow was (records c.primary_led.new.bodies) mid new turned in
-    let Q : Turned → Type 0 = λ turned. IsRowBy (λ site s. primary_hears site s s.lease from content) now (body_by before) (shown f) new turned in
-    let all : (second turned : Turned) → P second → turned ≡ joined led second → Q turned = λ second turned of is sealed.
-    let follow =
-    subst (λ (b : Bool). AsksFollow b before mid new second) c.is_ready-was_ready.ensures
-    (subst (λ rs. AsksFollow was rs mid new second) c.in_ok-led.ensures.reads.same of) in
-    followed_row f.awake now sealed before (shown f).state from content by.0 mid new led second turned by.1 (c.in_ok-led.ensures.row sealed) follow is
+    let P : Turned → Type 0 = λ turned. (records : List Record) → agrees records → AsksFollow was records mid new turned in
+    let Q : Turned → Type 0 = λ turned. (records : List Record) → agrees records → IsRowBy (λ site s. primary_hears site s s.lease from content) now (body_by records) (shown f) new turned in
+    let all : (second turned : Turned) → P second → turned ≡ joined led second → Q turned = λ second turned of is records agree sealed.
+    let follow = subst (λ (b : Bool). AsksFollow b records mid new second) c.is_ready-was_ready.ensures (of records agree) in
+    let row = c.in_ok-led.ensures.row records (c.asks_follow-followed.ensures.reads.later records agree) sealed in
+    followed_row f.awake now sealed records (shown f).state from content by.0 mid new led second turned by.1 row follow is
     in
     rest_ok P Q led c.asks_follow-followed.result c.join_rest.result all c.join_rest.ensures.joined c.asks_follow-followed.ensures.followed
 
 pub returns-clause-reads : goal.returns-clause-reads
 returns-clause-reads g c =
-    let records = g.B.Bodies.records in
+    let agrees = g.B.Bodies.agrees in
     let faults = g.B.Bodies.fault_count in
     let old = c.args.bodies.now in
     let mid = c.primary_led.new.bodies in
-    reads_behind records faults old mid _ _ _ c.join_rest.ensures.failed c.in_ok-led.ensures.reads c.asks_follow-followed.ensures.reads
+    reads_behind agrees faults old mid _ _ _ c.join_rest.ensures.failed c.in_ok-led.ensures.reads c.asks_follow-followed.ensures.reads
 
 pub returns-then-not-has_turn-clause-row : goal.returns-then-not-has_turn-clause-row
 returns-then-not-has_turn-clause-row g c =
-    λ sealed.
+    λ records agree sealed.
     let f = c.args.file.now in
     let old = shown f in
-    let site = site_at old.awake c.args.now sealed (body_by (g.B.Bodies.records c.args.bodies.now)) in
+    let site = site_at old.awake c.args.now sealed (body_by records) in
     let none : turn_of f.lease c.args.now ≡ None = none_of (turn_of f.lease c.args.now) (sym c.has_turn.ensures ∙ c.if-not-has_turn.true) in
     record {
       here = refl;

@@ -1,5 +1,6 @@
-use Rattle.std.proofs.Common.{◌≡◌, ◌∙◌, sym, true, false}
+use Rattle.std.proofs.Common.{◌≡◌, ◌∙◌, sym, List, true, false}
 use Rattle.std.specs.Prelude.{◌&&◌, not}
+use Rattle.xt_messages.specs.declared.record.Record.{Record}
 use Rattle.xt_protocol.specs.declared.turned.Turned.{Turned}
 use Rattle.xt_protocol.specs.Asks.{Served, asks_behind, serves_all}
 use Rattle.xt_protocol.specs.Primaries.{is_ready}
@@ -13,24 +14,24 @@ pub returns-then-becomes_ready-clause-followed : goal.returns-then-becomes_ready
 returns-then-becomes_ready-clause-followed g c =
     let old = shown c.args.file.now in
     let new = shown c.serve_all.new.file in
-    let records = g.B.Bodies.records c.args.bodies.now in
+    let agrees = g.B.Bodies.agrees c.serve_all.new.bodies in
     let test = is_ready old.state.primary.tenure && not c.args.was_ready in
     let is : test ≡ true = sym c.becomes_ready.ensures ∙ c.if-becomes_ready.true in
     let left : Served = record { primary = old.state.primary; asks = asks_behind old.state.primary.tenure old.state.asks; turned = quiet } in
-    let P : Turned → Type 0 = λ turned. ServesAll records old new turned in
-    let Q : Turned → Type 0 = λ turned. AsksFollow c.args.was_ready records old new turned in
-    let all : (turned : Turned) → P turned → Q turned = λ turned of.
+    let P : Turned → Type 0 = λ turned. (records : List Record) → agrees records → ServesAll records old new turned in
+    let Q : Turned → Type 0 = λ turned. (records : List Record) → agrees records → AsksFollow c.args.was_ready records old new turned in
+    let all : (turned : Turned) → P turned → Q turned = λ turned of records agree.
     record {
-      rest = of.rest;
-      step = λ own held. of.step own held ∙ sym (when_true test (serves_all (ground_at old records own held) old.state.primary old.state.asks.waiting) left is);
+      rest = (of records agree).rest;
+      step = λ own held. (of records agree).step own held ∙ sym (when_true test (serves_all (ground_at old records own held) old.state.primary old.state.asks.waiting) left is);
     }
     in
     if_ok P Q c.serve_all.result all c.serve_all.ensures.served
 
 pub returns-clause-followed : goal.returns-clause-followed
 returns-clause-followed g c =
+    λ records agree.
     let old = shown c.args.file.now in
-    let records = g.B.Bodies.records c.args.bodies.now in
     let test = is_ready old.state.primary.tenure && not c.args.was_ready in
     let no : test ≡ false = sym c.becomes_ready.ensures ∙ c.if-becomes_ready.false in
     let left : Served = record { primary = old.state.primary; asks = asks_behind old.state.primary.tenure old.state.asks; turned = quiet } in

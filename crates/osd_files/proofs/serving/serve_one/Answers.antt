@@ -2,6 +2,7 @@ use Rattle.std.proofs.Common.{◌≡◌, ◌∙◌, ap, sym, refl, List, true, f
 use Rattle.std.specs.Prelude.{is_some}
 use Rattle.xt_messages.specs.declared.file.FileHead.{FileHead}
 use Rattle.xt_messages.specs.declared.file.ObjectVersion.{ObjectVersion}
+use Rattle.xt_messages.specs.declared.record.Record.{Record}
 use Rattle.xt_protocol.specs.declared.turned.Turned.{Turned}
 use Rattle.xt_protocol.specs.Asks.{Served, is_read, read_answer}
 use Rattle.xt_protocol.specs.Serving.{reads}
@@ -16,21 +17,21 @@ pub returns-then-is_read-clause-served : goal.returns-then-is_read-clause-served
 returns-then-is_read-clause-served g c =
     let old = shown c.args.file.now in
     let ask = c.args.ask in
-    let records = g.B.Bodies.records c.args.bodies.now in
+    let agrees = g.B.Bodies.agrees c.serve_read.new.bodies in
     let reads_it : is_read ask.op ≡ true = sym c.is_read.ensures ∙ c.if-is_read.true in
-    let P : Turned → Type 0 = λ turned. (own : FileHead) (held : List ObjectVersion) → turned ≡ read_answer (ground_at old records own held) ask.id (reads (ground_at old records own held) old.state.primary ask.op) in
-    let Q : Turned → Type 0 = λ turned. ServesOne ask records old old turned in
-    let all : (turned : Turned) → P turned → Q turned = λ turned is.
-    record { rest = refl; step = λ before own held. read_waits (ground_at old records own held) (served_in old before) ask turned reads_it (is own held) }
+    let P : Turned → Type 0 = λ turned. (records : List Record) → agrees records → (own : FileHead) (held : List ObjectVersion) → turned ≡ read_answer (ground_at old records own held) ask.id (reads (ground_at old records own held) old.state.primary ask.op) in
+    let Q : Turned → Type 0 = λ turned. (records : List Record) → agrees records → ServesOne ask records old old turned in
+    let all : (turned : Turned) → P turned → Q turned = λ turned is records agree.
+    record { rest = refl; step = λ before own held. read_waits (ground_at old records own held) (served_in old before) ask turned reads_it (is records agree own held) }
     in
     if_ok P Q c.serve_read.result all c.serve_read.ensures.turned
 
 pub returns-then-has_issued-clause-served : goal.returns-then-has_issued-clause-served
 returns-then-has_issued-clause-served g c =
+    λ records agree.
     let f = c.args.file.now in
     let old = shown f in
     let ask = c.args.ask in
-    let records = g.B.Bodies.records c.args.bodies.now in
     let asks = c.stay.new.self in
     let unread : is_read ask.op ≡ false = sym c.is_read.ensures ∙ c.if-is_read.false in
     let has : is_some f.asks.issued ≡ true = sym c.has_issued.ensures ∙ c.if-has_issued.true in
@@ -47,10 +48,11 @@ returns-clause-served g c =
     let f = c.args.file.now in
     let old = shown f in
     let ask = c.args.ask in
-    let records = g.B.Bodies.records c.args.bodies.now in
+    let agrees = g.B.Bodies.agrees c.serve_waiting_write.new.bodies in
     let unread : is_read ask.op ≡ false = sym c.is_read.ensures ∙ c.if-is_read.false in
     let none : is_some f.asks.issued ≡ false = sym c.has_issued.ensures ∙ c.if-has_issued.false in
-    let Q : Turned → Type 0 = λ turned. ServesOne ask records old (shown c.serve_waiting_write.new.file) turned in
-    let P : Turned → Type 0 = λ turned. is_read ask.op ≡ false → is_some f.asks.issued ≡ false → Q turned in
-    let all : (turned : Turned) → P turned → Q turned = λ turned of. of unread none in
+    let new = shown c.serve_waiting_write.new.file in
+    let P : Turned → Type 0 = λ turned. (records : List Record) → agrees records → is_read ask.op ≡ false → is_some f.asks.issued ≡ false → ServesOne ask records old new turned in
+    let Q : Turned → Type 0 = λ turned. (records : List Record) → agrees records → ServesOne ask records old new turned in
+    let all : (turned : Turned) → P turned → Q turned = λ turned of records agree. of records agree unread none in
     if_ok P Q c.serve_waiting_write.result all c.serve_waiting_write.ensures.served

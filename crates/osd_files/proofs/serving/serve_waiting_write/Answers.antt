@@ -20,11 +20,10 @@ use Rattle.osd_files.proofs.serving.serve_waiting_write.Goals as goal
 
 pub returns-in-Some-led-clause-served : goal.returns-in-Some-led-clause-served
 returns-in-Some-led-clause-served g c =
-    λ unread none.
+    λ records agree unread none.
     let f = c.args.file.now in
     let old = shown f in
     let ask = c.args.ask in
-    let records = g.B.Bodies.records c.args.bodies.now in
     let new = c.issue.new.self in
     let turned = c.in-Some-led.turned in
     let led_by : Turned → Led = λ turned. record { primary = new.primary; turned = turned } in
@@ -37,18 +36,17 @@ returns-in-Some-led-clause-served g c =
           write_led (ground_at old records own held) (served_in old before) ask new.primary turned asks unread none
           (ap (λ (n : NodeId). writes (at n f.replica.file own held) f.lead.primary ask.id ask.epoch ask.op) (sym f.node)
           ∙ ap (λ (x : FileId). writes (at f.lead.node x own held) f.lead.primary ask.id ask.epoch ask.op) (sym f.file)
-          ∙ sym (c.in_ok-led.ensures.value own held)
+          ∙ sym (c.in_ok-led.ensures.value records agree own held)
           ∙ ap (λ (o : Option Turned). option_map led_by o) c.in-Some-led.is)
           (c.mark_issued.ensures ∙ ap (λ (b : Bool). asks_once_done f.asks b ask) c.has_issued.ensures);
     }
 
 pub returns-in_ok-stay-in-None-clause-served : goal.returns-in_ok-stay-in-None-clause-served
 returns-in_ok-stay-in-None-clause-served g c =
-    λ unread none.
+    λ records agree unread none.
     let f = c.args.file.now in
     let old = shown f in
     let ask = c.args.ask in
-    let records = g.B.Bodies.records c.args.bodies.now in
     let new = c.issue.new.self in
     let led_by : Turned → Led = λ turned. record { primary = new.primary; turned = turned } in
     let asks = c.stay.new.self in
@@ -64,7 +62,7 @@ returns-in_ok-stay-in-None-clause-served g c =
           ∙ write_stays (ground_at old records own held) (served_in old before) ask asks unread none
           (ap (λ (n : NodeId). writes (at n f.replica.file own held) f.lead.primary ask.id ask.epoch ask.op) (sym f.node)
           ∙ ap (λ (x : FileId). writes (at f.lead.node x own held) f.lead.primary ask.id ask.epoch ask.op) (sym f.file)
-          ∙ sym (c.in_ok-led.ensures.value own held)
+          ∙ sym (c.in_ok-led.ensures.value records agree own held)
           ∙ ap (λ (o : Option Turned). option_map led_by o) c.in-None.is)
           c.in_ok-stay-in-None.ensures.ok;
     }

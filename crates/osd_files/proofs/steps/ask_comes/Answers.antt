@@ -1,6 +1,7 @@
-use Rattle.std.proofs.Common.{◌≡◌, sym, subst, Bool, IfOk}
+use Rattle.std.proofs.Common.{◌≡◌, sym, subst, List, Bool, IfOk}
 use Rattle.xt_messages.specs.declared.file.Capability.{Capability}
 use Rattle.xt_messages.specs.declared.file.Kind.{Kind}
+use Rattle.xt_messages.specs.declared.record.Record.{Record}
 use Rattle.xt_protocol.specs.SeenBodies.{body_by}
 use Rattle.xt_protocol.specs.FileSteps.{ask_comes}
 use Rattle.osd_files.specs.Rows.{IsStep}
@@ -11,14 +12,16 @@ pub returns-in-Replicated-clause-row : goal.returns-in-Replicated-clause-row
 returns-in-Replicated-clause-row g c =
     let f = c.args.file.now in
     let capability = c.args.capability.now in
-    let body = body_by (g.B.Bodies.records c.args.bodies.now) in
-    let P : Kind → Type 0 = λ k. IfOk c.handle_ask.result (λ turned. (test : Capability → Bool) → test capability ≡ c.args.sealed → IsStep (λ site s. ask_comes site s k c.args.id capability c.args.op.now) (site_at f.awake c.args.now test body) (shown f) (shown c.handle_ask.new.file) turned) in
+    let agrees = g.B.Bodies.agrees c.handle_ask.new.bodies in
+    let P : Kind → Type 0 = λ k. IfOk c.handle_ask.result (λ turned. (records : List Record) → agrees records → (test : Capability → Bool) → test capability ≡ c.args.sealed
+    → IsStep (λ site s. ask_comes site s k c.args.id capability c.args.op.now) (site_at f.awake c.args.now test (body_by records)) (shown f) (shown c.handle_ask.new.file) turned) in
     subst P (sym c.in-Replicated.is) c.handle_ask.ensures.row
 
 pub returns-in-Striped-clause-row : goal.returns-in-Striped-clause-row
 returns-in-Striped-clause-row g c =
     let f = c.args.file.now in
     let capability = c.args.capability.now in
-    let body = body_by (g.B.Bodies.records c.args.bodies.now) in
-    let P : Kind → Type 0 = λ k. IfOk c.handle_striped.result (λ turned. (test : Capability → Bool) → test capability ≡ c.args.sealed → IsStep (λ site s. ask_comes site s k c.args.id capability c.args.op.now) (site_at f.awake c.args.now test body) (shown f) (shown c.handle_striped.new.file) turned) in
+    let agrees = g.B.Bodies.agrees c.handle_striped.new.bodies in
+    let P : Kind → Type 0 = λ k. IfOk c.handle_striped.result (λ turned. (records : List Record) → agrees records → (test : Capability → Bool) → test capability ≡ c.args.sealed
+    → IsStep (λ site s. ask_comes site s k c.args.id capability c.args.op.now) (site_at f.awake c.args.now test (body_by records)) (shown f) (shown c.handle_striped.new.file) turned) in
     subst P (sym c.in-Striped.is) c.handle_striped.ensures.row

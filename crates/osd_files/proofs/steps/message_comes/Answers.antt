@@ -1,8 +1,9 @@
-use Rattle.std.proofs.Common.{◌≡◌, ℕ, subst, Bool}
+use Rattle.std.proofs.Common.{◌≡◌, ℕ, subst, List, Bool}
 use Rattle.xt_messages.specs.declared.file.Capability.{Capability}
 use Rattle.xt_base.specs.declared.ids.OpId.{OpId}
 use Rattle.xt_messages.specs.declared.message.Payload.{Payload}
 use Rattle.xt_messages.specs.declared.message.Payload.TheVariants as payload
+use Rattle.xt_messages.specs.declared.record.Record.{Record}
 use Rattle.xt_protocol.specs.declared.turned.Turned.{Turned}
 use Rattle.xt_protocol.specs.SeenBodies.{body_by}
 use Rattle.xt_protocol.specs.FileSteps.{ask_comes, message_comes, primary_hears}
@@ -23,12 +24,13 @@ returns-in-Ask-clause-row g c =
     let capability = c.in-Ask.capability in
     let asked = c.in-Ask.op in
     let id : OpId = record { client = c.args.from; number = c.in-Ask.number } in
-    let body = body_by (g.B.Bodies.records c.args.bodies.now) in
-    let P : Turned → Type 0 = λ turned. (test : Capability → Bool) → test capability ≡ c.args.sealed → IsStep (λ site s. ask_comes site s capability.location.kind id capability asked) (site_at f.awake c.args.now test body) old new turned in
-    let Q : Turned → Type 0 = λ turned. IsRowOn (λ site s. message_comes site s c.args.from content) content c.args.sealed c.args.now body old new turned in
-    let all : (turned : Turned) → P turned → Q turned = λ turned of test sealed.
-    told_row content (payload.Ask c.in-Ask.number capability asked) (site_at f.awake c.args.now test body) c.args.from old new turned c.in-Ask.is
-    (of test (subst (λ (x : Payload). IsSealedBy test x c.args.sealed) c.in-Ask.is sealed))
+    let agrees = g.B.Bodies.agrees c.ask_comes.new.bodies in
+    let P : Turned → Type 0 = λ turned. (records : List Record) → agrees records → (test : Capability → Bool) → test capability ≡ c.args.sealed
+    → IsStep (λ site s. ask_comes site s capability.location.kind id capability asked) (site_at f.awake c.args.now test (body_by records)) old new turned in
+    let Q : Turned → Type 0 = λ turned. (records : List Record) → agrees records → IsRowOn (λ site s. message_comes site s c.args.from content) content c.args.sealed c.args.now (body_by records) old new turned in
+    let all : (turned : Turned) → P turned → Q turned = λ turned of records agree test sealed.
+    told_row content (payload.Ask c.in-Ask.number capability asked) (site_at f.awake c.args.now test (body_by records)) c.args.from old new turned c.in-Ask.is
+    (of records agree test (subst (λ (x : Payload). IsSealedBy test x c.args.sealed) c.in-Ask.is sealed))
     in
     if_ok P Q c.ask_comes.result all c.ask_comes.ensures.row
 
@@ -37,12 +39,13 @@ returns-in-Fetch-clause-row g c =
     let f = c.args.file.now in
     let old = shown f in
     let content = c.args.content.now in
-    let body = body_by (g.B.Bodies.records c.args.bodies.now) in
-    let P : Turned → Type 0 = λ turned. (now : ℕ) → IsRowBy (λ site s. fetch_row site s c.args.from c.in-Fetch.epoch c.in-Fetch.object c.in-Fetch.version) now body old old turned in
-    let Q : Turned → Type 0 = λ turned. IsRowOn (λ site s. message_comes site s c.args.from content) content c.args.sealed c.args.now body old old turned in
-    let all : (turned : Turned) → P turned → Q turned = λ turned of test sealed.
-    told_row content (payload.Fetch c.in-Fetch.file c.in-Fetch.epoch c.in-Fetch.object c.in-Fetch.version) (site_at f.awake c.args.now test body) c.args.from old old turned c.in-Fetch.is
-    (of c.args.now test)
+    let agrees = g.B.Bodies.agrees c.fetch_comes.new.bodies in
+    let P : Turned → Type 0 = λ turned. (records : List Record) → agrees records → (now : ℕ)
+    → IsRowBy (λ site s. fetch_row site s c.args.from c.in-Fetch.epoch c.in-Fetch.object c.in-Fetch.version) now (body_by records) old old turned in
+    let Q : Turned → Type 0 = λ turned. (records : List Record) → agrees records → IsRowOn (λ site s. message_comes site s c.args.from content) content c.args.sealed c.args.now (body_by records) old old turned in
+    let all : (turned : Turned) → P turned → Q turned = λ turned of records agree test sealed.
+    told_row content (payload.Fetch c.in-Fetch.file c.in-Fetch.epoch c.in-Fetch.object c.in-Fetch.version) (site_at f.awake c.args.now test (body_by records)) c.args.from old old turned c.in-Fetch.is
+    (of records agree c.args.now test)
     in
     if_ok P Q c.fetch_comes.result all c.fetch_comes.ensures.row
 
@@ -52,12 +55,12 @@ returns-in_default-clause-row g c =
     let old = shown f in
     let new = shown c.primary_hears.new.file in
     let content = c.args.content.now in
-    let body = body_by (g.B.Bodies.records c.args.bodies.now) in
+    let agrees = g.B.Bodies.agrees c.primary_hears.new.bodies in
     let no = c.in_default in
-    let P : Turned → Type 0 = λ turned. IsRowBy (λ site s. primary_hears site s s.lease c.args.from content) c.args.now body old new turned in
-    let Q : Turned → Type 0 = λ turned. IsRowOn (λ site s. message_comes site s c.args.from content) content c.args.sealed c.args.now body old new turned in
-    let all : (turned : Turned) → P turned → Q turned = λ turned of test sealed.
-    heard_row (site_at f.awake c.args.now test body) c.args.from content old new turned
+    let P : Turned → Type 0 = λ turned. (records : List Record) → agrees records → IsRowBy (λ site s. primary_hears site s s.lease c.args.from content) c.args.now (body_by records) old new turned in
+    let Q : Turned → Type 0 = λ turned. (records : List Record) → agrees records → IsRowOn (λ site s. message_comes site s c.args.from content) content c.args.sealed c.args.now (body_by records) old new turned in
+    let all : (turned : Turned) → P turned → Q turned = λ turned of records agree test sealed.
+    heard_row (site_at f.awake c.args.now test (body_by records)) c.args.from content old new turned
     (record {
       ask = no.not-Ask;
       read = no.not-Read;
@@ -71,14 +74,14 @@ returns-in_default-clause-row g c =
       head = no.not-Head;
       update = no.not-Update;
     })
-    (of test)
+    (of records agree test)
     in
     if_ok P Q c.primary_hears.result all c.primary_hears.ensures.row
 
 pub returns-in_ok-lease_comes-in-Read-clause-row : goal.returns-in_ok-lease_comes-in-Read-clause-row
 returns-in_ok-lease_comes-in-Read-clause-row g c =
-    λ test sealed. c.in_ok-lease_comes-in-Read.ensures (for_lease c.args.content.now c.in-Read.is) test (body_by (g.B.Bodies.records c.args.bodies.now))
+    λ records agree test sealed. c.in_ok-lease_comes-in-Read.ensures (for_lease c.args.content.now c.in-Read.is) test (body_by records)
 
 pub returns-in_ok-replica_comes-in-Gather-clause-row : goal.returns-in_ok-replica_comes-in-Gather-clause-row
 returns-in_ok-replica_comes-in-Gather-clause-row g c =
-    λ test sealed. c.in_ok-replica_comes-in-Gather.ensures (for_replica c.args.content.now c.in-Gather.is) c.args.now test (body_by (g.B.Bodies.records c.args.bodies.now))
+    λ records agree test sealed. c.in_ok-replica_comes-in-Gather.ensures (for_replica c.args.content.now c.in-Gather.is) c.args.now test (body_by records)

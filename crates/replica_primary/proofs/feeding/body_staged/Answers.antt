@@ -13,16 +13,16 @@ use Rattle.replica_primary.proofs.feeding.body_staged.Goals as goal
 
 pub returns-clause-value : goal.returns-clause-value
 returns-clause-value g c =
-    λ learnt held.
+    λ records agrees learnt held.
     let t = c.args.tenure.now in
     let from = c.args.from in
     let v = c.args.version in
-    let stands = ground c.args.place.now (g.B.Bodies.records c.args.bodies.now) c.args.own.now held in
+    let stands = ground c.args.place.now records c.args.own.now held in
     let head = head_of c.in-Some.target in
     fed_by stands learnt t from c.send_to_peer.new.tenure c.in_ok-send_to_peer.field-0 c.in_ok-state.state head _
     (set_anew stands learnt t from c.take_known-known.new.peers c.send_to_peer.new.tenure peer.Unknown c.in_ok-state.state c.take_known-known.ensures.set c.send_to_peer.ensures.state)
     c.in_ok-send_to_peer.ensures.sent
-    (c.in_ok-state.ensures.value ∙ ap (λ (known : List ObjectVersion). fed stands.body head known) c.in_ok-hold.ensures.held)
+    (c.in_ok-state.ensures.value records agrees ∙ ap (λ (known : List ObjectVersion). fed stands.body head known) c.in_ok-hold.ensures.held)
     ∙ known_staged stands learnt t from v head c.take_known-known.result (peer_in t.peers from) c.in-Some.ensures.head c.take_known-known.ensures.known
 
 pub returns-clause-sound : goal.returns-clause-sound

@@ -1,4 +1,5 @@
-use Rattle.std.proofs.Common.{◌≡◌, ◌++◌, [], map, take, drop}
+use Rattle.std.proofs.Common.{◌≡◌, ◌++◌, [], List, map, take, drop}
+use Rattle.xt_messages.specs.declared.record.Record.{Record}
 use Rattle.xt_protocol.specs.declared.states.Peer.{Peer}
 use Rattle.xt_protocol.specs.PrimaryRows.{feed_peer}
 use Rattle.replica_primary.specs.Moves.{ground_beyond}
@@ -7,10 +8,10 @@ use Rattle.replica_primary.proofs.gathering.feed_each.Given as goal
 -- the peers so far are fed
 abbrev pub invariant-loop-peer : goal.invariant-loop-peer
 invariant-loop-peer g l =
-    let records = g.B.Bodies.records in
-    let stands = ground_beyond l.place (records l.fn.bodies) l.fetched l.target [] in
+    let agrees = g.B.Bodies.agrees in
+    let stands = λ (records : List Record). ground_beyond l.place records l.fetched l.target [] in
     record {
-      fed : l.peers ≡ map (λ (p : Peer). let q : Peer = record { node = p.node; state = feed_peer stands l.target p.node p.state } in q) (take l.peer-index l.initial.peers) ++ drop l.peer-index l.initial.peers;
-      same : records l.bodies ≡ records l.fn.bodies;
+      fed : (records : List Record) → agrees l.bodies records → l.peers ≡ map (λ (p : Peer). let q : Peer = record { node = p.node; state = feed_peer (stands records) l.target p.node p.state } in q) (take l.peer-index l.initial.peers) ++ drop l.peer-index l.initial.peers;
+      later : (records : List Record) → agrees l.bodies records → agrees l.fn.bodies records;
       sound : g.B.Bodies.fault_count l.bodies ≡ g.B.Bodies.fault_count l.fn.bodies;
     }

@@ -8,12 +8,12 @@ use Rattle.replica_primary.proofs.gathering.install_and_keep.Goals as goal
 
 pub returns-clause-value : goal.returns-clause-value
 returns-clause-value g c =
-    λ learnt held.
+    λ records agrees learnt held.
     let place = c.args.place.now in
     let fetched = c.args.fetched in
     let after = c.installs.new.tenure in
     let turned = c.in_ok-turned.turned in
-    let stands = ground_beyond place (g.B.Bodies.records c.args.bodies.now) fetched c.args.own.now held in
+    let stands = ground_beyond place records fetched c.args.own.now held in
     ap (λ (u : Turned). goes_on learnt after u) c.in_ok-next.ensures
     ∙ ap (λ (rec : Option Record). after_keeping rec (goes_on learnt after turned)) c.kept_of-rec.ensures
-    ∙ ap (λ (led : Led). after_keeping (kept_of place.file fetched) led) (c.in_ok-turned.ensures.value learnt held)
+    ∙ ap (λ (led : Led). after_keeping (kept_of place.file fetched) led) (c.in_ok-turned.ensures.value records agrees learnt held)

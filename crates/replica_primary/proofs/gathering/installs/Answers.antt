@@ -9,12 +9,12 @@ use Rattle.replica_primary.proofs.gathering.installs.Goals as goal
 
 pub returns-clause-value : goal.returns-clause-value
 returns-clause-value g c =
-    λ learnt held.
-    let stands = ground_beyond c.args.place.now (g.B.Bodies.records c.args.bodies.now) c.args.fetched.now c.args.own.now held in
+    λ records agrees learnt held.
+    let stands = ground_beyond c.args.place.now records c.args.fetched.now c.args.own.now held in
     let target = c.in_ok-target.target in
     let installing = c.advance.new.tenure in
     installed stands learnt c.args.tenure.now installing c.args.chosen target c.feed_peers.new.peers c.in_ok-send_install.field-0 c.new-acked.result
-    c.advance.ensures (c.in_ok-target.ensures ∙ c.target_of.ensures.head) c.in_ok-feed_peers.ensures.value
+    c.advance.ensures (c.in_ok-target.ensures ∙ c.target_of.ensures.head) (c.in_ok-feed_peers.ensures.value records agrees)
     (c.in_ok-send_install.ensures
     ∙ ap (λ (peers : List Peer). sends (message stands.place.node stands.place.node (payload.Head stands.place.file installing.epoch target) ∷ last_to_each stands.place installing.epoch peers))
     c.as_slice.ensures)

@@ -13,12 +13,12 @@ none_issued (Some i) is = absurd cc
 
 pub returns-clause-value : goal.returns-clause-value
 returns-clause-value g c =
-    λ learnt own held.
+    λ records agrees learnt own held.
     let head = c.args.head.now in
-    let stands = ground c.args.place.now (g.B.Bodies.records c.args.bodies.now) own held in
+    let stands = ground c.args.place.now records own held in
     let none : c.args.issued.now ≡ None = none_issued c.args.issued.now (sym c.is_some.ensures ∙ c.if-is_some.false) in
     let active = c.requires.active ∙ ap (λ (i : Option IssuedUpdate). progress.Active head i) none in
     ap Some
-    (c.in_ok-issues.ensures (g.B.Bodies.records c.args.bodies.now) learnt own head held active
-    ∙ ap (λ (u : Option Update). issues stands learnt c.args.tenure.now head u) (c.in_ok-update.ensures.value own held))
+    (c.in_ok-issues.ensures records learnt own head held active
+    ∙ ap (λ (u : Option Update). issues stands learnt c.args.tenure.now head u) (c.in_ok-update.ensures.value records agrees own held))
     ∙ ap (λ (i : Option IssuedUpdate). issues_unless stands learnt c.args.tenure.now head i c.args.id c.args.epoch c.args.op.now) (sym none)

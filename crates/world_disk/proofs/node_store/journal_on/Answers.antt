@@ -1,7 +1,8 @@
-use Rattle.std.proofs.Common.{refl}
+use Rattle.std.proofs.Common.{ap, refl}
 use Rattle.disk_model.specs.Changes.{memory_kept}
 use Rattle.xt_journal.specs.Access as journal
-use Rattle.xt_journal.specs.Reading.{Foreign, Unknown, Damaged}
+use Rattle.xt_journal.specs.Reading.{Foreign, Unknown, Damaged, payloads_of}
+use Rattle.object_store.proofs.Callers.{are_placed}
 use Rattle.world_disk.proofs.StoredRecords.{is_loaded, nothing_else}
 use Rattle.world_disk.proofs.node_store.journal_on.Goals as goal
 
@@ -10,6 +11,15 @@ returns-in-Ok-clause-loaded c = is_loaded c.args.disk (journal.disk_of c.in-Ok.f
 
 pub returns-in-Ok-clause-reads : goal.returns-in-Ok-clause-reads
 returns-in-Ok-clause-reads c = c.in-Ok.ensures.superblock refl
+
+pub returns-in-Ok-clause-placed : goal.returns-in-Ok-clause-placed
+returns-in-Ok-clause-placed c =
+    let found = c.in-Ok.found in
+    are_placed found.0 (memory_kept c.args.disk).read found.1.items (c.in-Ok.ensures.keeps refl) (c.in-Ok.ensures.reads refl) (c.in-Ok.ensures.superblock refl)
+    (c.in-Ok.ensures.stays refl)
+
+pub returns-in-Ok-clause-stays : goal.returns-in-Ok-clause-stays
+returns-in-Ok-clause-stays c = ap payloads_of (c.in-Ok.ensures.stays refl)
 
 pub unreachable-requires-in-Err-NotOurs : goal.unreachable-requires-in-Err-NotOurs
 unreachable-requires-in-Err-NotOurs c =

@@ -1,14 +1,13 @@
-use Rattle.std.proofs.Common.{⊎_elim, inl, inr, ◌+◌, ◌<◌, length, subst, sym, ◌∙◌, ap, arith, true, false, List, None}
+use Rattle.std.proofs.Common.{⊎_elim, inl, inr, ◌+◌, ◌<◌, length, subst, sym, ◌∙◌, ap, arith, true, false, None}
 use Rattle.disk_model.specs.Disk.{Kept, IsImage}
 use Rattle.disk_model.proofs.Moments.{joined, weaker}
 use Rattle.xt_base.specs.Faults.{fault_count_after}
-use Rattle.xt_journal.specs.declared.placed.Placed.{Placed}
 use Rattle.xt_journal.specs.Format.{end_of, KeepsIn}
 use Rattle.xt_journal.specs.Loaded.{LeavesAsBefore}
 use Rattle.xt_journal.specs.Parsed.{Gives, is_fault}
 use Rattle.xt_journal.proofs.Outcomes.{an_err, follows, on_ok}
-use Rattle.xt_journal.proofs.Ready.{image_later, left_later, making_failed, read_left, reading_failed, ready_keeps, settle_failed}
-use Rattle.xt_journal.specs.Reading.{payloads_of}
+use Rattle.xt_journal.proofs.Ready.{image_later, left_later, making_failed, read_left, ready_keeps, settle_failed}
+use Rattle.xt_journal.specs.Reading.{payloads_on}
 use Rattle.xt_journal.proofs.load.read_journal.Goals as goal
 
 pub returns-then-len-clause-plan : goal.returns-then-len-clause-plan
@@ -19,7 +18,7 @@ returns-then-len-clause-plan g c told =
       changes = 1;
       three = omega arith;
       one = λ ready. omega arith;
-      goes_on = follows (fails c.args.disk.now) (fails c.settle.new.disk) (fails c.read_long.new.disk) 1 1 1 0 (c.in-Ok.ensures.plan told) goes;
+      goes_on = follows (fails c.args.disk.now) (fails c.settle.new.disk) (fails c.read_long.new.disk) 1 1 0 0 (c.in-Ok.ensures.plan told) goes;
     })
 
 pub returns-in-Ok-make_ready-clause-plan : goal.returns-in-Ok-make_ready-clause-plan
@@ -32,7 +31,7 @@ returns-in-Ok-make_ready-clause-plan g c told =
       changes = 1 + made.0;
       three = omega (arith, made.1);
       one = λ ready. ⊎_elim (λ long. absurd (short long)) (λ fresh. omega (arith, made.2 (read ∙ fresh))) ready;
-      goes_on = follows (fails c.args.disk.now) (fails c.settle.new.disk) (fails c.make_ready.new.disk) 1 1 1 made.0 (c.in-Ok.ensures.plan told) made.3;
+      goes_on = follows (fails c.args.disk.now) (fails c.settle.new.disk) (fails c.make_ready.new.disk) 1 1 0 made.0 (c.in-Ok.ensures.plan told) made.3;
     }
 
 pub returns-in-Err-make_ready-clause-any_moment : goal.returns-in-Err-make_ready-clause-any_moment
@@ -73,9 +72,6 @@ returns-then-len-clause-gives g c told =
     let D = g.D.Disk in
     subst (λ (k : Kept). Gives k.read c.read_long.result) (c.in-Ok.ensures.rests told) (c.read_long.ensures.gives told)
 
-pub returns-then-len-clause-keeps : goal.returns-then-len-clause-keeps
-returns-then-len-clause-keeps g c = c.read_long.ensures.keeps
-
 pub returns-then-len-clause-fresh : goal.returns-then-len-clause-fresh
 returns-then-len-clause-fresh g c told short =
     let D = g.D.Disk in
@@ -102,9 +98,7 @@ returns-then-len-clause-any_moment g c told =
     (λ image left. image_later old mid image (c.in-Ok.ensures.rests told) (g.met.D.Disk.read_is_image c.args.disk.now told) (inl left))
 
 pub returns-then-len-clause-failed : goal.returns-then-len-clause-failed
-returns-then-len-clause-failed g c told fault =
-    let D = g.D.Disk in
-    reading_failed (D.fails c.args.disk.now) (D.fails c.settle.new.disk) (D.kept c.args.disk.now).read (c.in-Ok.ensures.plan told) (c.read_long.ensures.failed told fault)
+returns-then-len-clause-failed g c told fault = absurd (c.read_long.ensures.sure told fault)
 
 pub returns-then-len-clause-count : goal.returns-then-len-clause-count
 returns-then-len-clause-count g c = c.read_long.ensures.count ∙ ap (fault_count_after (is_fault c.read_long.result)) c.in-Ok.ensures.count
@@ -152,7 +146,7 @@ returns-in-Err-make_ready-clause-count g c = c.in-Err-make_ready.ensures.count �
 
 pub returns-in-Ok-make_ready-clause-keeps : goal.returns-in-Ok-make_ready-clause-keeps
 returns-in-Ok-make_ready-clause-keeps g c told =
-    let kept = g.D.Disk.kept c.make_ready.new.disk in (
-      subst (λ (placed : List Placed). KeepsIn None kept (payloads_of placed)) (sym c.new.ensures.items) (ready_keeps kept (c.in-Ok-make_ready.ensures.ready told)),
-      ap (λ (placed : List Placed). end_of (payloads_of placed)) (sym c.new.ensures.items),
-    )
+    let D = g.D.Disk in
+    let kept = D.kept c.make_ready.new.disk in
+    let none = sym (ap (payloads_on (D.kept c.args.disk.now).read) c.new.ensures.items) in
+    (subst (KeepsIn None kept) none (ready_keeps kept (c.in-Ok-make_ready.ensures.ready told)), ap end_of none)

@@ -21,7 +21,7 @@ returns-in-Some-clause-passed g c =
     let s = c.args.self.now in
     let old = standing (g.N.Node.state s.node) (records_of c.args.store) (journal_at c.args.store) s.own s.ears s.clock s.due s.sender.count s.woken in
     map_ok _ _ c.act.result (λ store acted.
-    has_told (g.N.Node.role s.node) s.sender.boot c.args.bounds.period c.args.bounds.turns c.args.spent.now old _ _ _ _ _ _ _ c.in-Some.msg c.take.new.self
+    has_told g.D.Disk.is_told (g.N.Node.role s.node) s.sender.boot c.args.bounds.period c.args.bounds.turns c.args.spent.now old _ _ _ _ _ _ _ c.in-Some.msg c.take.new.self
     c.in-Some.ensures c.act.ensures.given _ acted) c.act.ensures.acted
 
 pub returns-in-Some-clause-ended : goal.returns-in-Some-clause-ended
@@ -29,9 +29,9 @@ returns-in-Some-clause-ended g c =
     let s = c.args.self.now in
     let old = standing (g.N.Node.state s.node) (records_of c.args.store) (journal_at c.args.store) s.own s.ears s.clock s.due s.sender.count s.woken in
     map_err _ _ c.act.result (λ ended is.
-    has_told_failed (g.N.Node.role s.node) s.sender.boot c.args.bounds.period c.args.bounds.turns c.args.spent.now old _ _ _ _ _ _ _ c.in-Some.msg c.take.new.self
+    has_told_failed g.D.Disk.is_told (g.N.Node.role s.node) s.sender.boot c.args.bounds.period c.args.bounds.turns c.args.spent.now old _ _ _ _ _ _ _ c.in-Some.msg c.take.new.self
     c.in-Some.ensures c.act.ensures.given
-    (KeepsWith g.D.Disk.is_told g.D.Disk.moment g.D.Disk.left_since (disk_of c.args.store) ended.disk (records_of c.args.store)) ended.status is) c.act.ensures.ends
+    (KeepsWith g.D.Disk.is_told g.D.Disk.moment g.D.Disk.left_since (disk_of c.args.store) ended.disk (records_of c.args.store)) ended.status is.0 is.1 is.2) c.act.ensures.ends
 
 pub returns-then-spent-bounds-clause-ended : goal.returns-then-spent-bounds-clause-ended
 returns-then-spent-bounds-clause-ended g c =
@@ -57,8 +57,8 @@ returns-then-self-clause-passed g c =
     let same : c.take.new.self ≡ s.own = c.in_default.ensures.1 ∙ sym c.in_default.ensures.0 in
     map_ok _ _ c.settle.result (λ store passes.
     let new = standing (g.N.Node.state n.node) (records_of store) (journal_at store) n.own n.ears n.clock n.due n.sender.count n.woken in
-    has_looked role s.sender.boot c.args.bounds.period c.args.bounds.turns c.args.spent.now old _ _ _ _ _ _ _ refl refl refl new
-    (looks_so role s.sender.boot c.args.bounds.period old c.take.new.self same (g.L.Link.given c.args.link.now) new passes))
+    has_looked g.D.Disk.is_told role s.sender.boot c.args.bounds.period c.args.bounds.turns c.args.spent.now old _ _ _ _ _ _ _ refl refl refl new
+    (looks_so role s.sender.boot c.args.bounds.period old c.take.new.self same g.D.Disk.is_told (g.L.Link.given c.args.link.now) new passes))
     (c.settle.ensures.passed c.args.bounds.period (g.L.Link.given c.args.link.now))
 
 pub returns-then-self-clause-ended : goal.returns-then-self-clause-ended
@@ -69,7 +69,7 @@ returns-then-self-clause-ended g c =
     let same : c.take.new.self ≡ s.own = c.in_default.ensures.1 ∙ sym c.in_default.ensures.0 in
     map_err _ _ c.settle.result (λ ended is.
     let leaves = KeepsWith g.D.Disk.is_told g.D.Disk.moment g.D.Disk.left_since (disk_of c.args.store) ended.disk (records_of c.args.store) in
-    has_not_looked role s.sender.boot c.args.bounds.period c.args.bounds.turns c.args.spent.now old _ _ _ _ _ _ _ refl refl refl leaves ended.status
+    has_not_looked g.D.Disk.is_told role s.sender.boot c.args.bounds.period c.args.bounds.turns c.args.spent.now old _ _ _ _ _ _ _ refl refl refl leaves ended.status
     (ends_so role s.sender.boot c.args.bounds.period old c.take.new.self same leaves ended.status is)) (c.settle.ensures.ends c.args.bounds.period)
 
 pub returns-then-self-clause-cause : goal.returns-then-self-clause-cause

@@ -1,6 +1,7 @@
 use Rattle.std.proofs.Common.{◌≡◌, sym, subst, Some, Option, List, IfOk}
 use Rattle.xt_messages.specs.declared.file.FileHead.{FileHead}
 use Rattle.xt_messages.specs.declared.file.ObjectVersion.{ObjectVersion}
+use Rattle.xt_messages.specs.declared.record.Record.{Record}
 use Rattle.xt_protocol.specs.declared.states.Place.{Place}
 use Rattle.xt_protocol.specs.Serving.{reads}
 use Rattle.replica_primary.specs.Written.{ground}
@@ -12,9 +13,9 @@ pub returns-in-Some-clause-value : goal.returns-in-Some-clause-value
 returns-in-Some-clause-value g c =
     let inside = c.self.inside in
     let l = c.in-Some.listed in
-    let kept = g.B.Bodies.records c.args.bodies.now in
+    let agrees = g.B.Bodies.agrees c.read.new.bodies in
     let stands : StandsAt inside.node inside.file (Some l) = subst (StandsAt inside.node inside.file) c.in-Some.is c.self.invariant.0 in
-    let R : Place → Type 0 = λ p. IfOk c.read.result (λ answer. (own : FileHead) (held : List ObjectVersion) → answer ≡ reads (ground p kept own held) l.primary.state c.args.op.now) in
-    let P : LeadView → Type 0 = λ v. IfOk c.read.result (λ answer. (own : FileHead) (held : List ObjectVersion) → answer ≡ reads (ground (place_of v) kept own held) v.primary c.args.op.now) in
+    let R : Place → Type 0 = λ p. IfOk c.read.result (λ answer. (records : List Record) → agrees records → (own : FileHead) (held : List ObjectVersion) → answer ≡ reads (ground p records own held) l.primary.state c.args.op.now) in
+    let P : LeadView → Type 0 = λ v. IfOk c.read.result (λ answer. (records : List Record) → agrees records → (own : FileHead) (held : List ObjectVersion) → answer ≡ reads (ground (place_of v) records own held) v.primary c.args.op.now) in
     let view : Option Listed → LeadView = λ o. record { node = inside.node; file = inside.file; location = location_in o; primary = primary_in o } in
     subst P c.self.view_is (subst (λ (o : Option Listed). P (view o)) (sym c.in-Some.is) (subst R stands c.read.ensures.value))

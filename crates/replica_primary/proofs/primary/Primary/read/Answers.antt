@@ -10,10 +10,9 @@ pub returns-clause-value : goal.returns-clause-value
 unfolding reads
 returns-clause-value g c =
     let inside = c.self.inside in
-    let records = g.B.Bodies.records c.args.bodies.now in
     let op = c.args.op.now in
     if_so _ _ c.reads_under.result c.reads_under.ensures.value
-    (λ answer of own held.
-    of own held
+    (λ answer of records agrees own held.
+    of records agrees own held
     ∙ reads_shown inside.state.learnt (ground inside.place records own held) op inside.state.tenure
     ∙ ap (λ (v : PrimaryView). reads (ground v.place records own held) v.state op) c.self.view_is)

@@ -1,5 +1,4 @@
 use Rattle.std.proofs.Common.{◌≡◌, ◌∙◌, sym, ap}
-use Rattle.xt_messages.specs.declared.record.FileRow.{FileRow}
 use Rattle.xt_protocol.specs.Folds.{row_in, new_row}
 use Rattle.replica_records.proofs.Held.{none_held}
 use Rattle.replica_records.proofs.folding.Folding.allows_head.Goals as goal

@@ -10,12 +10,12 @@ unwrap-before-requires c =
     ok_of c.insert-put.result c.insert-put.ensures.absent (c.requires c.in-Some.key (sym c.of.ensures ∙ c.in-Some.is))
 
 pub returns-in-Some : goal.returns-in-Some
-returns-in-Some c = λ records is are.
+returns-in-Some c = λ records like same is are.
     let puts = sym c.of.ensures ∙ c.in-Some.is in
     let done = ok_of c.insert-put.result c.insert-put.ensures.absent (c.requires c.in-Some.key puts) in
-    with_place records c.args.rec.now c.args.self.now _ c.in-Some.key puts
+    with_place records like c.args.self.now _ c.in-Some.key (same ∙ puts)
     (subst (λ (place : ℕ). Updates body_cmp c.args.self.now.places c.insert-put.new.self c.in-Some.key (Some (Some place))) is
     (at_ok c.insert-put.result done c.insert-put.ensures.updates)) are
 
 pub returns-in_default : goal.returns-in_default
-returns-in_default c = λ records is are. with_none records c.args.rec.now c.args.self.now (sym c.of.ensures ∙ c.in_default.is) are
+returns-in_default c = λ records like same is are. with_none records like c.args.self.now (same ∙ sym c.of.ensures ∙ c.in_default.is) are

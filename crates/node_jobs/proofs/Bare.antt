@@ -1,0 +1,68 @@
+-- What a store has of its records in memory, without their bodies, says what they say.
+use Rattle.std.proofs.Common.{ℕ, ◌≡◌, ◌∙◌, Bool, true, false, List, get_or, refl, ap, sym, subst}
+use Rattle.std.specs.List.{All}
+use Rattle.std.proofs.lemmas.List.Elements.{All-map}
+use Rattle.xt_base.specs.declared.ids.Boot.{Boot}
+use Rattle.xt_messages.specs.declared.record.Folded.{Folded}
+use Rattle.xt_messages.specs.declared.record.Record.{Record}
+use Rattle.xt_messages.specs.declared.record.Record.TheVariants as kept
+use Rattle.xt_protocol.specs.Folds.{boot_after, fold_of}
+use Rattle.replica_records.specs.Known.{as_known}
+use Rattle.object_store.specs.Bare.{bare, bare_of}
+use Rattle.object_store.proofs.BareFolds.{boot_bare, fold_bare, fold_of_bare}
+use Rattle.osd_core.specs.Slots.{AreRows}
+use Rattle.server_rows.specs.Directory.{DirState, dir_of, empty_dir}
+use Rattle.server_rows.specs.Directory as directory
+use Rattle.server_rows.specs.Metadata.{Catalogue, catalogue_of, empty_catalogue}
+use Rattle.server_rows.specs.Metadata as metadata
+use Rattle.mrc_core.specs.Picking.{CanTake}
+use Rattle.node_jobs.specs.Boots.{stored_boot}
+
+-- all of a boot is known
+pub boot_known : (told : Bool) (boot : Boot) → as_known told (kept.Boot boot) ≡ kept.Boot boot
+boot_known true boot = refl
+boot_known false boot = refl
+
+pub stored_bare : (records : List Record) → stored_boot (bare_of records) ≡ stored_boot records
+stored_bare records = fold_of_bare boot_after boot_bare 0 records
+
+pub rows_bare : (given records : List Record) → given ≡ bare_of records → AreRows (fold_of records).files → AreRows (fold_of given).files
+rows_bare given records is rows = subst (λ (f : Folded). AreRows f.files) (sym (ap fold_of is ∙ fold_bare records)) rows
+
+dir_same : (dir : DirState) (rec : Record) → directory.after_record dir (bare rec) ≡ directory.after_record dir rec
+dir_same dir (kept.Boot b) = refl
+dir_same dir (kept.Promise file epoch) = refl
+dir_same dir (kept.Update file update) = refl
+dir_same dir (kept.Stage file object version bytes) = refl
+dir_same dir (kept.Head file head) = refl
+dir_same dir (kept.View file location) = refl
+dir_same dir (kept.Meta from number now nodes request) = refl
+
+pub dir_bare : (records : List Record) → dir_of (bare_of records) ≡ dir_of records
+dir_bare records = fold_of_bare directory.after_record dir_same empty_dir records
+
+mrc_same : (key : List ℕ) (catalogue : Catalogue) (rec : Record) → metadata.after_record key catalogue (bare rec) ≡ metadata.after_record key catalogue rec
+mrc_same key catalogue (kept.Boot b) = refl
+mrc_same key catalogue (kept.Promise file epoch) = refl
+mrc_same key catalogue (kept.Update file update) = refl
+mrc_same key catalogue (kept.Stage file object version bytes) = refl
+mrc_same key catalogue (kept.Head file head) = refl
+mrc_same key catalogue (kept.View file location) = refl
+mrc_same key catalogue (kept.Meta from number now nodes request) = refl
+
+pub mrc_bare : (key : List ℕ) (records : List Record) → catalogue_of key (bare_of records) ≡ catalogue_of key records
+mrc_bare key records = fold_of_bare (metadata.after_record key) (mrc_same key) empty_catalogue records
+
+taken_same : (rec : Record) → CanTake rec → CanTake (bare rec)
+taken_same (kept.Boot b) can = can
+taken_same (kept.Promise file epoch) can = can
+taken_same (kept.Update file update) can = can
+taken_same (kept.Stage file object version bytes) can = can
+taken_same (kept.Head file head) can = can
+taken_same (kept.View file location) can = can
+taken_same (kept.Meta from number now nodes request) can = can
+
+-- and each can be taken
+pub taken_bare : (given records : List Record) → given ≡ bare_of records → All CanTake records → All CanTake given
+taken_bare given records is can =
+    subst (All CanTake) (sym is) (All-map CanTake bare records (λ k d less. taken_same (get_or records k d) (can k d less)))

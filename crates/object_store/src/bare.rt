@@ -1,0 +1,49 @@
+//! Records without their bodies.
+ghost use Rattle.std.specs.Prelude.{◌≡◌, IfOk};
+ghost use Rattle.object_store.specs.Bare.{bare, with_body};
+
+use std::alloc::Global;
+use xt_base::{Copies, Octets, OutOfMemory};
+use xt_messages::{Record, Update};
+
+/// Takes its body from a record.
+pub fn strip(alloc: Global, rec: &mut Record)
+    ensures { rec.new ≡ bare rec.old }
+{
+    match rec {
+        Record::Update { update, .. } => update.body = Octets::new(alloc),
+        Record::Stage { bytes, .. } => *bytes = Octets::new(alloc),
+        _ => {}
+    }
+}
+
+/// A copy of a record with this body in place of its own, where it puts one.
+pub fn copy_with(alloc: Global, rec: &Record, body: Octets) -> Result<Record, OutOfMemory>
+    ensures { IfOk result (λ made. made ≡ with_body body rec.now) }
+{
+    match rec {
+        Record::Update { file, update } => Ok(Record::Update {
+            file: *file,
+            update: Update {
+                stamp: update.stamp,
+                id: update.id,
+                mark: update.mark,
+                drop_from: update.drop_from,
+                object: update.object,
+                body,
+            },
+        }),
+        Record::Stage {
+            file,
+            object,
+            version,
+            ..
+        } => Ok(Record::Stage {
+            file: *file,
+            object: *object,
+            version: *version,
+            bytes: body,
+        }),
+        _ => rec.copy(alloc),
+    }
+}

@@ -1,0 +1,136 @@
+-- records that are put after others, with bodies that are copied from a store
+use Rattle.std.proofs.Common.{◌≡◌, ◌+◌, ◌<◌, ℕ, true, false, Bool, inl, List, [], ◌∷◌, ◌++◌, length, map, take, get_or, Option, Some, None, refl, sym, ◌∙◌, ap, subst, append_assoc}
+use Rattle.std.specs.Prelude.{filter}
+use Rattle.std.specs.List.{All, AllByRecursion}
+use Rattle.std.proofs.lemmas.Bool.{cond-true}
+use Rattle.std.proofs.lemmas.List.{flat_map_more, map-append, take_more}
+use Rattle.std.proofs.lemmas.List.Elements.{All-append, All-from_recursion, All-nil, All-push}
+use Rattle.disk_model.specs.declared.disk.Disk.{Ghosts}
+use Rattle.xt_base.specs.declared.ids.FileId.{FileId}
+use Rattle.xt_base.specs.declared.ids.Stamp.{Stamp}
+use Rattle.xt_messages.specs.declared.file.Location.{Location}
+use Rattle.xt_messages.specs.declared.file.ObjectVersion.{ObjectVersion}
+use Rattle.xt_messages.specs.declared.record.FileRow.{FileRow}
+use Rattle.xt_messages.specs.declared.record.Folded.{Folded}
+use Rattle.xt_messages.specs.declared.record.KeepBody.{KeepBody}
+use Rattle.xt_messages.specs.declared.record.Record.{Record}
+use Rattle.xt_messages.specs.declared.record.Record.TheVariants as kept
+use Rattle.xt_protocol.specs.Folds.{fold_of, is_logged, logged_of}
+use Rattle.xt_protocol.specs.Forgetting.{records_of_row, records_of_rows, rewritten, row_without, view_of}
+use Rattle.xt_protocol.specs.SeenBodies.{body_by}
+use Rattle.object_store.specs.declared.copied.Copied.{Copied}
+use Rattle.object_store.specs.declared.store.Store.{Store}
+use Rattle.object_store.specs.Access.{records_of}
+use Rattle.object_store.specs.Bare.{bare_of}
+use Rattle.object_store.specs.Places.{IsPair, bytes_at}
+use Rattle.object_store.proofs.BareFolds.{fold_bare, logged_bare}
+use Rattle.store_compact.specs.Adding.{AreAdded, IsOf, all_copied_of, copied_of, plain}
+
+pub nothing_there : (told : Bool) (read : List ℕ) → bytes_at told read (record { at = 0; len = 0 }) ≡ []
+nothing_there true read = refl
+nothing_there false read = refl
+
+module _ {D : Type 0} {g : Ghosts D} (store : Store D g) where
+  -- ---- records after others
+
+  pub added_then : (a b c : List Copied) (x y : List Record) → AreAdded store a b x → AreAdded store b c y → AreAdded store a c (x ++ y)
+  added_then a b c x y first second = record {
+    are = second.are ∙ ap (λ (l : List Record). l ++ y) first.are ∙ append_assoc (all_copied_of store a) x y;
+    of = λ all. second.of (first.of all);
+  }
+
+  added_all : (old new more : List Copied) (added : List Record) → new ≡ old ++ more → all_copied_of store more ≡ added → All (IsOf store) more → AreAdded store old new added
+  added_all old new more added is are of = record {
+    are = ap (all_copied_of store) is ∙ map-append (copied_of store) old more ∙ ap (λ (l : List Record). all_copied_of store old ++ l) are;
+    of = λ all. subst (All (IsOf store)) (sym is) (All-append (IsOf store) old more all of);
+  }
+
+  -- ---- records without bodies
+
+  pub one_added : (old new : List Copied) (rec : Record) → new ≡ old ++ plain rec ∷ [] → copied_of store (plain rec) ≡ rec → IsPair rec (record { at = 0; len = 0 }) → AreAdded store old new (rec ∷ [])
+  one_added old new rec is same pair =
+      added_all old new (plain rec ∷ []) (rec ∷ []) is (ap (λ (r : Record). r ∷ []) same)
+      (All-push (IsOf store) [] (plain rec) (All-nil (IsOf store)) (record { pair = pair; place = inl refl }))
+
+  pub view_added : (old new : List Copied) (file : FileId) (location : Option Location) → new ≡ old ++ map plain (view_of file location) → AreAdded store old new (view_of file location)
+  view_added old new file None is = added_all old new [] [] is refl (All-nil (IsOf store))
+  view_added old new file (Some location) is = one_added old new (kept.View file location) is refl refl
+
+  logged_are : (records : List Record) → all_copied_of store (map plain (filter is_logged records)) ≡ filter is_logged records
+  logged_are [] = refl
+  logged_are (kept.Update file update ∷ rs) = logged_are rs
+  logged_are (kept.Stage file object version bytes ∷ rs) = logged_are rs
+  logged_are (kept.Boot boot ∷ rs) = logged_are rs
+  logged_are (kept.Promise file epoch ∷ rs) = logged_are rs
+  logged_are (kept.Head file head ∷ rs) = logged_are rs
+  logged_are (kept.View file location ∷ rs) = logged_are rs
+  logged_are (kept.Meta from number now nodes request ∷ rs) = ap (λ (l : List Record). kept.Meta from number now nodes request ∷ l) (logged_are rs)
+
+  logged_of_it : (records : List Record) → AllByRecursion (IsOf store) (map plain (filter is_logged records))
+  logged_of_it [] = tt
+  logged_of_it (kept.Update file update ∷ rs) = logged_of_it rs
+  logged_of_it (kept.Stage file object version bytes ∷ rs) = logged_of_it rs
+  logged_of_it (kept.Boot boot ∷ rs) = logged_of_it rs
+  logged_of_it (kept.Promise file epoch ∷ rs) = logged_of_it rs
+  logged_of_it (kept.Head file head ∷ rs) = logged_of_it rs
+  logged_of_it (kept.View file location ∷ rs) = logged_of_it rs
+  logged_of_it (kept.Meta from number now nodes request ∷ rs) = (record { pair = refl; place = inl refl }, logged_of_it rs)
+
+  logged_added : (old new : List Copied) (records : List Record) → new ≡ old ++ map plain (logged_of records) → AreAdded store old new (logged_of records)
+  unfolding logged_of
+  logged_added old new records is =
+      let logged = filter is_logged records in
+      added_all old new (map plain logged) logged is (logged_are records) (All-from_recursion (IsOf store) (map plain logged) (logged_of_it records))
+
+  -- ---- bodies
+
+  pub stages_more : (stage : ObjectVersion → Record) (chosen : ObjectVersion → Bool) (made new : List Copied) (whole : List Record) (v : ObjectVersion)
+      (left rest : List ObjectVersion) (next : Copied) → left ≡ v ∷ rest → chosen v ≡ true → new ≡ made ++ next ∷ [] → copied_of store next ≡ stage v
+      → all_copied_of store made ++ map stage (filter chosen left) ≡ whole → all_copied_of store new ++ map stage (filter chosen rest) ≡ whole
+  stages_more stage chosen made new whole v left rest next is keeps more same before =
+      let later : filter chosen left ≡ v ∷ filter chosen rest =
+      ap (filter chosen) is ∙ cond-true (chosen v) (v ∷ filter chosen rest) (filter chosen rest) keeps in
+      ap (λ (l : List Record). l ++ map stage (filter chosen rest))
+      (ap (all_copied_of store) more ∙ map-append (copied_of store) made (next ∷ []) ∙ ap (λ (r : Record). all_copied_of store made ++ r ∷ []) same)
+      ∙ append_assoc (all_copied_of store made) (stage v ∷ []) (map stage (filter chosen rest))
+      ∙ ap (λ (vs : List ObjectVersion). all_copied_of store made ++ map stage vs) (sym later)
+      ∙ before
+
+  pub of_more : (made new : List Copied) (next : Copied) → new ≡ made ++ next ∷ [] → IsOf store next → All (IsOf store) made → All (IsOf store) new
+  of_more made new next is of all = subst (All (IsOf store)) (sym is) (All-push (IsOf store) made next all of)
+
+-- ---- what is said of files
+
+pub rows_more : (body : FileId → ℕ → Stamp → List ℕ) (keep : List KeepBody) (rows : List FileRow) (i : ℕ) (row : FileRow) → i < length rows → row ≡ get_or rows i row
+    → records_of_rows body (map (row_without keep) (take i rows)) ++ records_of_row body (row_without keep row) ≡ records_of_rows body (map (row_without keep) (take (i + 1) rows))
+rows_more body keep rows i row inside is =
+    flat_map_more (records_of_row body) [] (map (row_without keep) (take i rows)) (row_without keep row)
+    ∙ ap (records_of_rows body)
+    (sym (map-append (row_without keep) (take i rows) (row ∷ []))
+    ∙ ap (map (row_without keep)) (ap (λ (r : FileRow). take i rows ++ r ∷ []) is ∙ sym (take_more rows i row inside)))
+
+-- ---- all of it
+
+module _ {D : Type 0} {g : Ghosts D} (store : Store D g) (keep : List KeepBody) where
+  pub record Whole (made : List Copied) : Type 0 where
+    pub are : all_copied_of store made ≡ rewritten keep (records_of store)
+    pub of : All (IsOf store) made
+
+  pub whole_added : (none one two made : List Copied) (slice : List Record) (folded : Folded) (files : List FileRow) (sought : List KeepBody) → none ≡ []
+      → one ≡ none ++ plain (kept.Boot folded.boot) ∷ [] → two ≡ one ++ map plain (logged_of slice) → slice ≡ bare_of (records_of store) → folded ≡ fold_of slice
+      → files ≡ folded.files → sought ≡ keep
+      → AreAdded store two made (records_of_rows (body_by (records_of store)) (map (row_without sought) files)) → Whole made
+  unfolding rewritten
+  whole_added none one two made slice folded files sought nothing first second is_slice is_folded is_files is_sought third =
+      let records = records_of store in
+      let fold : folded ≡ fold_of records = is_folded ∙ ap fold_of is_slice ∙ fold_bare records in
+      let boot : Record = kept.Boot (fold_of records).boot in
+      let begun : AreAdded store [] one (boot ∷ []) =
+      one_added store [] one boot (first ∙ ap (λ (l : List Copied). l ++ plain (kept.Boot folded.boot) ∷ []) nothing ∙ ap (λ (f : Folded). plain (kept.Boot f.boot) ∷ []) fold) refl refl in
+      let asked : AreAdded store one two (logged_of records) =
+      logged_added store one two records (second ∙ ap (λ (l : List Record). one ++ map plain l) (ap logged_of is_slice ∙ logged_bare records)) in
+      let said : AreAdded store two made (records_of_rows (body_by records) (map (row_without keep) (fold_of records).files)) =
+      subst (λ (k : List KeepBody). AreAdded store two made (records_of_rows (body_by records) (map (row_without k) (fold_of records).files))) is_sought
+      (subst (λ (rows : List FileRow). AreAdded store two made (records_of_rows (body_by records) (map (row_without sought) rows))) (is_files ∙ ap (λ (f : Folded). f.files) fold) third) in
+      let all = added_then store [] two made _ _ (added_then store [] one two _ _ begun asked) said in
+      record { are = all.are; of = all.of (All-nil (IsOf store)) }
