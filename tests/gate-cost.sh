@@ -6,8 +6,7 @@
 # table to standard output.
 #
 # `rt ci` leaves no record of time, and proves several crates at once. So the provers that run below it are
-# looked at once a second, and the last second of each is lost. What is kept from an earlier gate on this machine
-# isn't done again, and costs nothing here: `tests/gate-cost.sh rt ci --anew` counts all.
+# looked at once a second, and the last second of each is lost.
 set -u
 cd "$(dirname "$0")/.." || exit 1
 [ $# -gt 0 ] || set -- .ci/run

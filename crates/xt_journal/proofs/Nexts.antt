@@ -28,6 +28,11 @@ first_byte bytes place some is =
     let here : place + 0 ≡ place = omega arith in
     get_or-take some (drop place bytes) 0 0 (omega (arith, is)) ∙ get_or-drop place bytes 0 0 ∙ ap (λ (n : ℕ). get_or bytes n 0) here
 
+-- what a buffer was read as, for its size in numbers and for the disk as it was at first
+pub read_as : {D : Type 0} (read : D → List ℕ) {source old : D} {buf : List ℕ} (place : ℕ) {size : ℕ} (n : ℕ) → buf ≡ take size (drop place (read source)) → size ≡ n → source ≡ old
+    → buf ≡ take n (drop place (read old))
+read_as read {source} place n is same was = is ∙ ap (λ (m : ℕ). take m (drop place (read source))) same ∙ ap (λ d. take n (drop place (read d))) was
+
 module _ (bytes first number one : List ℕ) (gate len : ℕ) (is_first : first ≡ take 1 (drop gate bytes)) (opens : slice_index first 0 ≡ open_gate)
     (is_number : number ≡ take 4 (drop (gate + 1) bytes)) (all : AreBytes number) (says : len ≡ big_number 4 number) (some : 1 ≤ len) (room : gate + (6 + len) ≤ length bytes)
     (is_one : one ≡ take 1 (drop (gate + 5) bytes)) where

@@ -72,6 +72,13 @@ not_fault (Err (Layout version)) never = refl
 not_fault (Err (Damaged place)) never = refl
 not_fault (Err OutOfMemory) never = refl
 
+pub same_trouble : {S T : Type 0} (trouble : Trouble) → IsErrOf {T = S} (Err trouble) DiskFault → IsErrOf {T = T} (Err trouble) DiskFault
+same_trouble DiskFault is = refl
+same_trouble (NotOurs first) is = absurd cc
+same_trouble (Layout version) is = absurd cc
+same_trouble (Damaged place) is = absurd cc
+same_trouble OutOfMemory is = absurd cc
+
 pub settle_failed : (fails : ℕ → ℕ → Bool) (bytes : List ℕ) → ((l : ℕ) × (l ≤ 1) × (fails l 1 ≡ true)) → FailedCall fails bytes
 settle_failed fails bytes failed = record {
   looks = failed.0;

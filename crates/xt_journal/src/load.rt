@@ -1,4 +1,4 @@
-ghost use Rattle.std.specs.Prelude.{◌≡◌, ◌⊎◌, ◌≤◌, ◌<◌, ◌+◌, [], ℕ, true, false, IsTrue, IfOk, IfSome, OnOk, OnErr, IsErrOf, is_err, length};
+ghost use Rattle.std.specs.Prelude.{◌≡◌, ◌⊎◌, ◌≤◌, ◌<◌, ◌+◌, [], ℕ, true, false, IsTrue, IfOk, IfErr, IfSome, OnOk, OnErr, IsErrOf, is_err, length};
 ghost use Rattle.disk_model.specs.Disk.{IsImage, LeavesOnly, at_rest};
 ghost use Rattle.xt_base.specs.Faults.{fault_count_after};
 ghost use Rattle.journal_records.specs.Calls.{GoesOn};
@@ -37,6 +37,32 @@ fn settle<D: Disk>(disk: &mut D) -> Result<u64, Failed>
 {
     disk.sync()?;
     disk.length()
+}
+
+/// Reserves what loading writes, and settles a disk. Returns its length.
+fn prepare<D: Disk>(disk: &mut D) -> Result<u64, Trouble>
+    ensures value { IsTrue D.is_told → IfOk result (λ len. len ≡ length (D.kept disk.old).read) }
+    ensures rests { IsTrue D.is_told →
+        OnOk result (D.kept disk.new ≡ at_rest (D.kept disk.old).read) }
+    ensures left { IsTrue D.is_told → OnErr result ((D.kept disk.new ≡ D.kept disk.old)
+        ⊎ (D.kept disk.new ≡ at_rest (D.kept disk.old).read)) }
+    ensures any_moment { IsTrue D.is_told →
+        LeavesOnly D.moment D.left_since disk.old disk.new (IsImage (D.kept disk.old)) }
+    ensures reserved { OnOk result (13 ≤ D.reserved disk.new) }
+    ensures room { OnOk result (1000 ≤ D.room disk.new) }
+    ensures plan { IsTrue D.is_told →
+        OnOk result (GoesOn 1 1 (D.fails disk.old) (D.fails disk.new)) }
+    ensures unread { IfErr result (λ trouble.
+        (trouble ≡ Trouble.DiskFault) ⊎ (trouble ≡ Trouble.OutOfMemory)) }
+    ensures failed { IsTrue D.is_told → IsErrOf result Trouble.DiskFault →
+        (l : ℕ) × (l ≤ 1) × (D.fails disk.old l 1 ≡ true) }
+    ensures count { D.fault_count disk.new ≡
+        fault_count_after (is_fault result) (D.fault_count disk.old) }
+{
+    match disk.reserve(FRESH.len() as u64) {
+        Ok(()) => Ok(settle(disk)?),
+        Err(_) => Err(Trouble::OutOfMemory),
+    }
 }
 
 /// Whether a disk of at most 13 bytes is a journal with no record. It makes no device call.
@@ -82,47 +108,8 @@ fn make_ready<D: Disk>(disk: &mut D, len: u64) -> Result<(), Failed>
     }
 }
 
-/// Reserves what loading writes, and then reads a disk gate by gate, and makes it a journal where it has at most 13
-/// bytes and isn't one.
-pub fn load_from<D: Disk>(alloc: Global, disk: &mut D) -> Result<Found, Trouble>
-    ensures reads { IsTrue D.is_told →
-        IfSome (reading_found (D.kept disk.old).read result) (IsTheReading (D.kept disk.old).read) }
-    ensures keeps { IsTrue D.is_told → IfOk result (λ found.
-        KeepsIn found.superblock (D.kept disk.new) (payloads_on (D.kept disk.old).read found.extents.items)) }
-    ensures place { IsTrue D.is_told → IfOk result (λ found.
-        found.end ≡ end_in found.superblock (payloads_on (D.kept disk.old).read found.extents.items)) }
-    ensures located { IfOk result (λ found. IsLocated found.superblock found.end) }
-    ensures within { IfOk result (λ found. AreWithin found.end found.extents.items) }
-    ensures stands { IsTrue D.is_told → IfOk result (λ found.
-        StandsIn found.superblock (D.kept disk.old).read (payloads_on (D.kept disk.old).read found.extents.items)) }
-    ensures stays { IsTrue D.is_told → IfOk result (λ found.
-        placed_on true (D.kept disk.new).read found.extents.items
-        ≡ placed_on true (D.kept disk.old).read found.extents.items) }
-    ensures fresh { IsTrue D.is_told → length (D.kept disk.old).read ≤ 13 →
-        IfOk result (λ found. D.kept disk.new ≡ at_rest (journal_of [])) }
-    ensures same { IsTrue D.is_told → 13 < length (D.kept disk.old).read →
-        (D.kept disk.new).read ≡ (D.kept disk.old).read }
-    ensures left { IsTrue D.is_told →
-        OnErr result (LeavesDisk (D.kept disk.old) (D.kept disk.new)) }
-    ensures any_moment { IsTrue D.is_told →
-        LeavesOnly D.moment D.left_since disk.old disk.new (LeavesAsBefore (D.kept disk.old)) }
-    ensures plan { IsTrue D.is_told →
-        OnOk result (MadeCalls (D.fails disk.old) (D.fails disk.new) (D.kept disk.old).read) }
-    ensures failed { IsTrue D.is_told → IsErrOf result Trouble.DiskFault →
-        FailedCall (D.fails disk.old) (D.kept disk.old).read }
-    ensures count { D.fault_count disk.new ≡
-        fault_count_after (is_fault result) (D.fault_count disk.old) }
-{
-    match disk.reserve(FRESH.len() as u64) {
-        Ok(()) => read_journal(alloc, disk),
-        Err(_) => Err(Trouble::OutOfMemory),
-    }
-}
-
 /// Reads a disk gate by gate, and makes it a journal where it has at most 13 bytes and isn't one.
-fn read_journal<D: Disk>(alloc: Global, disk: &mut D) -> Result<Found, Trouble>
-    requires inside { 13 ≤ D.reserved disk.old }
-    requires noted { 1000 ≤ D.room disk.old }
+pub fn load_from<D: Disk>(alloc: Global, disk: &mut D) -> Result<Found, Trouble>
     ensures gives { IsTrue D.is_told → Gives (D.kept disk.old).read result }
     ensures keeps { IsTrue D.is_told → IfOk result (λ found.
         KeepsIn found.superblock (D.kept disk.new) (payloads_on (D.kept disk.old).read found.extents.items)
@@ -149,21 +136,17 @@ fn read_journal<D: Disk>(alloc: Global, disk: &mut D) -> Result<Found, Trouble>
     ensures count { D.fault_count disk.new ≡
         fault_count_after (is_fault result) (D.fault_count disk.old) }
 {
-    let len = match settle(disk) {
-        Ok(len) => len,
-        Err(Failed) => return Err(Trouble::DiskFault),
-    };
-    if len > FRESH.len() as u64 {
-        read_long(alloc, disk, len)
-    } else {
-        match make_ready(disk, len) {
+    match prepare(disk) {
+        Ok(len) if len > FRESH.len() as u64 => read_long(alloc, disk, len),
+        Ok(len) => match make_ready(disk, len) {
             Ok(()) => Ok(Found {
                 end: 12,
                 superblock: None,
                 extents: Vec::new(alloc),
             }),
             Err(Failed) => Err(Trouble::DiskFault),
-        }
+        },
+        Err(trouble) => Err(trouble),
     }
 }
 

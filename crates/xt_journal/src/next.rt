@@ -29,19 +29,19 @@ pub fn next_at<D: Disk>(ahead: &mut ReadAhead<'_, D>, gate: u64) -> Result<Next,
     ensures source { source_of ahead.new ≡ source_of ahead.old }
     ensures size { size_of ahead.new ≡ size_of ahead.old }
 {
-    let behind = ahead.size() - gate - 1;
+    let left = ahead.size() - gate - 1;
     let mut first = [0; 1];
     ahead.read(gate, first.as_mut_slice())?;
     if first[0] != OPEN_GATE {
         return Ok(Next::Closed);
     }
-    if behind < 4 {
+    if left < 4 {
         return Ok(Next::CutOff);
     }
     let mut number = [0; 4];
     ahead.read(gate + 1, number.as_mut_slice())?;
     let len = BigEndian::read_u32(&number) as usize;
-    if len == 0 || behind - 4 <= len as u64 {
+    if len == 0 || left - 4 <= len as u64 {
         return Ok(Next::CutOff);
     }
     let mut kind = [0; 1];

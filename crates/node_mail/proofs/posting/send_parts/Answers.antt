@@ -52,5 +52,5 @@ pub returns-clause-sends : goal.returns-clause-sends
 returns-clause-sends g c =
     let all : c.loop-index.index ≡ parts_in (length c.args.message.now) = search rules in
     subst (λ n. (sends : Sends (g.L.Link.sent c.args.link.now) (g.L.Link.sent c.loop-index.link) (g.L.Link.loss_count c.args.link.now) (g.L.Link.loss_count c.loop-index.link)
-        (sent_to c.args.to.now (map (part_of c.args.id c.args.message.now) (range_with_len 0 n))))
+    (sent_to c.args.to.now (map (part_of c.args.id c.args.message.now) (range_with_len 0 n))))
     × (c.loop-index.all ≡ list_all (λ ok. ok) sends.taken)) all c.loop-index.invariant.2
