@@ -2,24 +2,30 @@
 # Looks for inputs on which the built program crashes, hangs, ends with a status that its job hasn't, or answers otherwise the second
 # time: schedules, traces and command lines, drawn anew or changed from good ones; stores, cut and changed; datagrams to a running
 # directory service, metadata server and OSD, which have to serve afterwards. Loopback alone.
-#   tests/fuzz.sh [--runs N] [--seed N] [PROGRAM]
-# Ends by itself after so many runs (10,000 where none are given; a million take about an hour on two processors). An input that was
-# found is kept, and reported with what was wrong; the status is then 1.
+#   tests/fuzz.sh [--runs N] [--seed N] [--workers N] [PROGRAM]
+# Ends by itself after so many runs (10,000 where none are given). They are shared among so many workers (one a processor where that isn't
+# given), each of which draws its own inputs from the seed and its number. An input that was found is kept, and reported with what was
+# wrong; the status is then 1.
 set -u
 here=$(cd "$(dirname "$0")" && pwd)
 runs=10000
 seed=1
+workers=$(nproc)
 while :; do
     case "${1:-}" in
     --runs) runs=$2 ;;
     --seed) seed=$2 ;;
+    --workers) workers=$2 ;;
     *) break ;;
     esac
     shift 2
 done
 program=${1:-$(bash "$here/build.sh")} || exit 1
-exec python3 - "$program" "$here" "$runs" "$seed" <<'PYTHON'
+exec python3 - "$program" "$here" "$runs" "$seed" "$workers" <<'PYTHON'
+import concurrent.futures
 import glob
+import itertools
+import multiprocessing
 import os
 import random
 import signal
@@ -30,12 +36,15 @@ import tempfile
 import threading
 import time
 
-PROGRAM, HERE, RUNS, SEED = sys.argv[1], sys.argv[2], int(sys.argv[3]), int(sys.argv[4])
+PROGRAM, HERE, RUNS, SEED, WORKERS = sys.argv[1], sys.argv[2], *map(int, sys.argv[3:6])
 # a number that was drawn is changed as one again, however many digits it has
 sys.set_int_max_str_digits(0)
 KEPT = tempfile.mkdtemp(prefix="xtfs-found-")
 # A run takes milliseconds; one that takes so many seconds hangs.
 PATIENCE = 20
+# So many command lines run at once in a worker: most wait for an answer that nobody gives.
+LINES_AT_ONCE = 8
+counting = threading.Lock()
 found = 0
 
 # The statuses that each job may end with.
@@ -48,8 +57,9 @@ NODE = {5, 11, 12, 13, 14, 15, 16, 18}
 def tell(what, words, data):
     """Keeps what was found, and reports it."""
     global found
-    found += 1
-    name = os.path.join(KEPT, str(found))
+    with counting:
+        found += 1
+        name = os.path.join(KEPT, f"{os.getpid()}-{found}")
     with open(name, "wb") as out:
         out.write(data)
     print(f"FOUND: {what}: {' '.join(words)} <{name}", flush=True)
@@ -71,9 +81,9 @@ def last_line(out):
     return lines[-2] if len(lines) > 1 else b""
 
 
-def tried(words, data, statuses, is_twice=True):
+def tried(words, data, statuses, is_twice=True, folder=None):
     """Runs the program, and reports what is wrong."""
-    first = once(words, data)
+    first = once(words, data, folder)
     if first is None:
         return tell("it hangs", words, data)
     status, out = first
@@ -364,15 +374,34 @@ def stores_are_changed(rng, folder, count):
         tried(words, b"", NODE, is_twice=False)
 
 
-def main():
-    rng = random.Random(SEED)
+def lines_are_tried(rng, folder, count):
+    """Tries command lines, some at once, each in a folder that no other one uses meanwhile."""
+    own = threading.local()
+
+    def tried_alone(words, data):
+        if not hasattr(own, "folder"):
+            own.folder = tempfile.mkdtemp(dir=folder)
+        tried(words, data, WORDS, is_twice=False, folder=own.folder)
+
+    with concurrent.futures.ThreadPoolExecutor(LINES_AT_ONCE) as pool:
+        drawn = (([os.fsdecode(w) for w in words_changed(rng)], rng.choice([b"", b"times 1000 100\n"])) for _ in range(count))
+        # (a part at a time, so that what is drawn and not yet tried stays little)
+        while part := list(itertools.islice(drawn, 1000)):
+            for done in [pool.submit(tried_alone, *it) for it in part]:
+                done.result()
+
+
+def work(number):
+    """Does one worker's share. Returns how many inputs it found."""
+    rng = random.Random(f"{SEED}-{number}")
+    runs = RUNS // WORKERS + (number < RUNS % WORKERS)
     schedules = [open(f, "rb").read() for f in sorted(glob.glob(f"{HERE}/vectors*/*.schedule") + glob.glob(f"{HERE}/../examples/*.schedule"))]
     traces = [open(f, "rb").read() for f in sorted(glob.glob(f"{HERE}/vectors*/*.trace"))]
     shares = {"schedules changed": 0.3, "schedules drawn": 0.1, "traces changed": 0.3, "words": 0.2, "stores": 0.05, "datagrams": 0.05}
     with tempfile.TemporaryDirectory() as folder:
         os.chdir(folder)
         for what, share in shares.items():
-            count, began, before = int(RUNS * share), time.time(), found
+            count, began, before = int(runs * share), time.time(), found
             if what == "schedules changed":
                 for _ in range(count):
                     tried(["replay"], lines_changed(rng, rng.choice(schedules), schedules), REPLAY)
@@ -383,16 +412,23 @@ def main():
                 for _ in range(count):
                     tried(["audit"], lines_changed(rng, rng.choice(traces), traces), AUDIT)
             elif what == "words":
-                for _ in range(count):
-                    tried([os.fsdecode(w) for w in words_changed(rng)], rng.choice([b"", b"times 1000 100\n"]), WORDS, is_twice=False)
+                lines_are_tried(rng, folder, count)
             elif what == "stores":
                 stores_are_changed(rng, folder, count)
             else:
                 nodes_are_told(rng, folder, count * 20)
-            print(f"{what}: {count} in {time.time() - began:.0f} s, {found - before} found", flush=True)
-    if not found:
+            print(f"worker {number}: {what}: {count} in {time.time() - began:.0f} s, {found - before} found", flush=True)
+        os.chdir("/")
+    return found
+
+
+def main():
+    with multiprocessing.Pool(WORKERS) as pool:
+        all_found = sum(pool.map(work, range(WORKERS), chunksize=1))
+    print(f"{RUNS} runs, {all_found} found", flush=True)
+    if not all_found:
         os.rmdir(KEPT)
-    sys.exit(1 if found else 0)
+    sys.exit(1 if all_found else 0)
 
 
 main()
