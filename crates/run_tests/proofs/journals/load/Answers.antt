@@ -4,7 +4,7 @@ use Rattle.xt_journal.specs.Access.{place_of}
 use Rattle.xt_journal.specs.Placed.{AreWithin}
 use Rattle.object_store.specs.Loading.{ArePlaced}
 use Rattle.object_store.proofs.Callers.{are_placed}
-use Rattle.damage_tests.proofs.journals.load.Goals as goal
+use Rattle.run_tests.proofs.journals.load.Goals as goal
 
 pub load-requires-2-clause-placed : goal.load-requires-2-clause-placed
 load-requires-2-clause-placed g c told =
