@@ -1,10 +1,10 @@
 #!/usr/bin/env bash
 # Tries the wrong bodies of tests/edits: the prover has to refuse each.
 #   tests/edits.sh [--read] [CRATE..]
-# The gate tries the edits in the folders crates/CRATE/must-fail. Those of tests/edits/CRATE are edits of the same form, of crates whose proof
-# takes minutes: the gate would take half an hour longer with them. Run this for a crate that you have changed. With --read no prover is run:
-# each edit only has to apply, that is each text that it replaces is in its file exactly once. The gate does that much. The status is 0 if
-# every edit passed.
+# The gate tries the edits in the folders crates/CRATE/must-fail. Those of tests/edits/CRATE are edits of the same form, of crates whose
+# proof takes a minute or more, as trying each of them does. Run this for a crate that you have changed. With --read no prover is run:
+# each edit only has to apply, that is each text that it replaces is in its file exactly once. The gate does that much. The status is 0
+# if every edit passed.
 set -u
 cd "$(dirname "$0")/.." || exit 1
 reads_only=false
