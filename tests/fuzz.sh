@@ -28,6 +28,7 @@ import itertools
 import multiprocessing
 import os
 import random
+import select
 import signal
 import socket
 import subprocess
@@ -67,6 +68,8 @@ def tell(what, words, data):
 
 def once(words, data, folder=None):
     """The status and the output of a run; None where it hangs."""
+    if folder is None:
+        return once_here(words, data)
     try:
         done = subprocess.run(
             [PROGRAM, *words], input=data, stdout=subprocess.PIPE, stderr=subprocess.DEVNULL, timeout=PATIENCE, cwd=folder
@@ -74,6 +77,38 @@ def once(words, data, folder=None):
     except subprocess.TimeoutExpired:
         return None
     return done.returncode, done.stdout
+
+
+class Streams:
+    """A worker's files in memory, which its runs have one after the other as their input and output."""
+
+    def __init__(self):
+        self.source, self.sink = os.memfd_create("source"), os.memfd_create("sink")
+        self.moved = [
+            (os.POSIX_SPAWN_DUP2, self.source, 0),
+            (os.POSIX_SPAWN_DUP2, self.sink, 1),
+            (os.POSIX_SPAWN_OPEN, 2, os.devnull, os.O_WRONLY, 0),
+        ]
+
+
+def once_here(words, data):
+    """The same in the worker's folder. A run takes a millisecond or two, and pipes would take as long again."""
+    os.ftruncate(streams.source, 0)
+    os.pwrite(streams.source, data, 0)
+    os.ftruncate(streams.sink, 0)
+    # (the offsets are shared with the run before)
+    os.lseek(streams.source, 0, os.SEEK_SET)
+    os.lseek(streams.sink, 0, os.SEEK_SET)
+    child = os.posix_spawn(PROGRAM, [PROGRAM, *words], os.environ, file_actions=streams.moved)
+    ended = os.pidfd_open(child)
+    ends = select.poll()
+    ends.register(ended, select.POLLIN)
+    has_ended = ends.poll(PATIENCE * 1000)
+    if not has_ended:
+        os.kill(child, signal.SIGKILL)
+    status = os.waitstatus_to_exitcode(os.waitpid(child, 0)[1])
+    os.close(ended)
+    return (status, os.pread(streams.sink, os.fstat(streams.sink).st_size, 0)) if has_ended else None
 
 
 def last_line(out):
@@ -393,6 +428,8 @@ def lines_are_tried(rng, folder, count):
 
 def work(number):
     """Does one worker's share. Returns how many inputs it found."""
+    global streams
+    streams = Streams()
     rng = random.Random(f"{SEED}-{number}")
     runs = RUNS // WORKERS + (number < RUNS % WORKERS)
     schedules = [open(f, "rb").read() for f in sorted(glob.glob(f"{HERE}/vectors*/*.schedule") + glob.glob(f"{HERE}/../examples/*.schedule"))]
