@@ -1,7 +1,8 @@
-ghost use Rattle.std.specs.Prelude.{◌≡◌, ◌++◌, ◌∷◌, ◌<◌, ◌^◌, [], false, not, filter, length, is_some, Some, None, IfOk, OnOk, OnErr};
+ghost use Rattle.std.specs.Prelude.{◌≡◌, ◌++◌, ◌∷◌, ◌==◌, [], true, false, not, filter, length, is_some, Some, None, IfOk, OnOk, OnErr};
 ghost use Rattle.xt_protocol.specs.Asks as rows;
 ghost use Rattle.xt_protocol.specs.Turns as turns;
 ghost use Rattle.xt_protocol.specs.Overdue as overdue;
+ghost use Rattle.osd_requests.specs.Due as due;
 ghost use Rattle.std.specs.List.{list_any};
 
 use std::alloc::{AllocError, Global};
@@ -140,6 +141,23 @@ fn tell_issued_due(
     }
 }
 
+/// Whether the deadline of one of these asks has come.
+fn are_waiting_due(waiting: &[WaitingAsk], now: u64) -> bool
+    ensures { result ≡ list_any (overdue.is_due now) waiting.now }
+{
+    waiting.iter().any(|ask| ask.deadline <= now)
+}
+
+/// Whether the deadline of the issued ask has come, and it wasn't answered.
+fn is_issued_due(issued: &Option<IssuedAsk>, now: u64) -> bool
+    ensures { result ≡ due.is_issued_due now issued.now }
+{
+    match issued {
+        Some(issued) => issued.ask.deadline <= now && !issued.told,
+        None => false,
+    }
+}
+
 /// Drops the asks whose deadline has come.
 fn drop_due(waiting: &mut Seq<WaitingAsk>, now: u64)
     ensures { waiting.new ≡ filter (λ w. not (overdue.is_due now w)) waiting.old }
@@ -239,66 +257,68 @@ impl OpenAsks {
         }
     }
 
-    /// Answers the asks that wait, in order. None waits any more.
-    pub fn tell_waiting(
-        &mut self,
+    /// The answers to the asks that wait, in order.
+    pub fn told_waiting(
+        &self,
         alloc: Global,
         node: NodeId,
         file: &FileId,
         reply: &Reply,
     ) -> Result<Msgs, OutOfMemory>
-        ensures told { IfOk result (λ outs. outs ≡
-            rows.tells_each node file.now self.old.waiting reply.now) }
-        ensures ok { OnOk result (self.new ≡ record self.old { waiting = [] }) }
-        ensures err { OnErr result (self.new ≡ self.old) }
+        ensures { IfOk result (λ outs. outs ≡
+            rows.tells_each node file.now self.now.waiting reply.now) }
     {
         let mut outs = Seq::new(alloc);
         tell_each(alloc, &mut outs, node, file, self.waiting.as_slice(), reply)?;
-        self.waiting = Seq::new(alloc);
         Ok(outs)
     }
 
-    /// Answers all asks: the issued one, unless it was answered, and then those that wait, in order. None is left.
-    pub fn tell_all(
-        &mut self,
+    /// None waits any more. The issued one stays.
+    pub fn drop_waiting(&mut self)
+        ensures { self.new ≡ record self.old { waiting = [] } }
+    {
+        self.waiting.items.clear();
+    }
+
+    /// The answers to all asks: to the issued one, unless it was answered, and then to those that wait, in order.
+    pub fn told_all(
+        &self,
         alloc: Global,
         node: NodeId,
         file: &FileId,
         reply: &Reply,
     ) -> Result<Msgs, OutOfMemory>
-        ensures told { IfOk result (λ outs. outs ≡
-            rows.tells_untold node file.now self.old.issued reply.now
-            ++ rows.tells_each node file.now self.old.waiting reply.now) }
-        ensures ok { OnOk result (self.new ≡ rows.no_asks) }
-        ensures err { OnErr result (self.new ≡ self.old) }
+        ensures { IfOk result (λ outs. outs ≡
+            rows.tells_untold node file.now self.now.issued reply.now
+            ++ rows.tells_each node file.now self.now.waiting reply.now) }
     {
         let mut outs = Seq::new(alloc);
         tell_untold(alloc, &mut outs, node, file, &self.issued, reply)?;
         tell_each(alloc, &mut outs, node, file, self.waiting.as_slice(), reply)?;
-        self.waiting = Seq::new(alloc);
-        self.issued = None;
         Ok(outs)
     }
 
-    /// Answers the asks whose deadline has come by the clock `now`: those that wait, in order, which are gone then; and the
-    /// issued one, unless it was answered before, which stays.
-    pub fn tell_due(
-        &mut self,
+    /// No ask is left.
+    pub fn drop_all(&mut self)
+        ensures { self.new ≡ rows.no_asks }
+    {
+        self.waiting.items.clear();
+        self.issued = None;
+    }
+
+    /// The answers to the asks whose deadline has come by the clock `now`: to those that wait, in order, and then to the
+    /// issued one, unless it was answered before.
+    pub fn told_due(
+        &self,
         alloc: Global,
         node: NodeId,
         file: &FileId,
         now: u64,
         reply: &Reply,
     ) -> Result<Msgs, OutOfMemory>
-        ensures told { IfOk result (λ outs. outs ≡
-            rows.tells_each node file.now (filter (overdue.is_due now) self.old.waiting) reply.now
-            ++ rows.tells_untold node file.now (overdue.newly_due now self.old.issued) reply.now) }
-        ensures ok { OnOk result (self.new ≡
-            record {
-              waiting = filter (λ w. not (overdue.is_due now w)) self.old.waiting;
-              issued = overdue.issued_due now self.old.issued;
-            }) }
-        ensures err { OnErr result (self.new ≡ self.old) }
+        ensures { IfOk result (λ outs. outs ≡
+            rows.tells_each node file.now (filter (overdue.is_due now) self.now.waiting) reply.now
+            ++ rows.tells_untold node file.now (overdue.newly_due now self.now.issued) reply.now) }
     {
         let mut outs = Seq::new(alloc);
         tell_due_of(
@@ -311,8 +331,88 @@ impl OpenAsks {
             reply,
         )?;
         tell_issued_due(alloc, &mut outs, node, file, &self.issued, now, reply)?;
+        Ok(outs)
+    }
+
+    /// The asks whose deadline has come by the clock `now` are gone where they waited. The issued one stays, and counts as
+    /// answered where its deadline has come.
+    pub fn drop_due(&mut self, now: u64)
+        ensures { self.new ≡
+            record {
+              waiting = filter (λ w. not (overdue.is_due now w)) self.old.waiting;
+              issued = overdue.issued_due now self.old.issued;
+            } }
+    {
         mark_due(&mut self.issued, now);
         drop_due(&mut self.waiting, now);
-        Ok(outs)
+    }
+
+    /// Whether the deadline of an ask has come by the clock `now`: of one that waits, or of the issued one, unless it was
+    /// answered. Where none is due, [`OpenAsks::told_due`] gives no message, and [`OpenAsks::drop_due`] changes nothing.
+    pub fn are_due(&self, now: u64) -> bool
+        ensures exact { result ≡ due.are_due now self.now }
+        ensures none { result ≡ false → due.NoneDue now self.now }
+    {
+        are_waiting_due(self.waiting.as_slice(), now) || is_issued_due(&self.issued, now)
+    }
+
+    /// Whether no ask waits.
+    pub fn none_waits(&self) -> bool
+        ensures exact { result ≡ (length self.now.waiting == 0) }
+        ensures none { result ≡ true → self.now.waiting ≡ [] }
+    {
+        self.waiting.len() == 0
+    }
+
+    /// No update is issued any more. The asks that wait stay.
+    pub fn forget_issued(&mut self)
+        ensures { self.new ≡ record self.old { issued = None } }
+    {
+        self.issued = None;
+    }
+}
+
+/// An equal copy of an ask.
+fn copy_of(ask: &WaitingAsk, alloc: Global) -> Result<WaitingAsk, OutOfMemory>
+    ensures { IfOk result (λ made. made ≡ ask.now) }
+{
+    Ok(WaitingAsk {
+        id: ask.id,
+        epoch: ask.epoch,
+        op: ask.op.copy(alloc)?,
+        deadline: ask.deadline,
+    })
+}
+
+/// An equal copy of the asks that wait.
+fn copy_waiting(asks: &[WaitingAsk], alloc: Global) -> Result<Seq<WaitingAsk>, OutOfMemory>
+    ensures { IfOk result (λ made. made ≡ asks.now) }
+{
+    let mut made = Vec::with_capacity(alloc, asks.len())?;
+    for ask in asks {
+        made.push(copy_of(ask, alloc)?)?;
+    }
+    Ok(Seq { items: made })
+}
+
+/// An equal copy of the issued ask, if there is one.
+fn copy_issued(issued: &Option<IssuedAsk>, alloc: Global) -> Result<Option<IssuedAsk>, OutOfMemory>
+    ensures { IfOk result (λ made. made ≡ issued.now) }
+{
+    match issued {
+        Some(issued) => Ok(Some(IssuedAsk {
+            ask: copy_of(&issued.ask, alloc)?,
+            told: issued.told,
+        })),
+        None => Ok(None),
+    }
+}
+
+impl Copies for OpenAsks {
+    fn copy(&self, alloc: Global) -> Result<OpenAsks, OutOfMemory> {
+        Ok(OpenAsks {
+            waiting: copy_waiting(self.waiting.as_slice(), alloc)?,
+            issued: copy_issued(&self.issued, alloc)?,
+        })
     }
 }
