@@ -45,6 +45,13 @@ impl Asking {
         Asking { round }
     }
 
+    /// Another round in the same state.
+    pub fn same(&self) -> Asking
+        ensures { result ≡ self.now }
+    {
+        Asking { round: self.round }
+    }
+
     /// Takes a promise of this round, at the clock `now`.
     pub fn promise(self, now: u64, from: NodeId, boot: Boot, report: Option<Lease>) -> Asked
         ensures { result ≡ shown_asked (protocol.asking_promised self now from boot report) }

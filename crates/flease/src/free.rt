@@ -40,6 +40,15 @@ impl Free {
         Free { proposer }
     }
 
+    /// Another one in the same state.
+    pub fn same(&self) -> Free
+        ensures { result ≡ self.now }
+    {
+        Free {
+            proposer: self.proposer,
+        }
+    }
+
     /// Whether the greatest count known is below the last one, 2^62 - 1.
     pub fn can_ask(&self) -> bool
         ensures value { result ≡ protocol.can_ask self.now }

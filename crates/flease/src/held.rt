@@ -2,6 +2,7 @@ ghost use Rattle.std.specs.Prelude.{◌≡◌, ◌<◌, ◌≤◌, ◌+◌, ◌-
 ghost use Rattle.xt_protocol.specs.Register.{on_promise};
 ghost use Rattle.xt_protocol.specs.LeaseRows as protocol;
 ghost use Rattle.flease.specs.Answers.{shown_renewal, renewal_round};
+ghost use Rattle.flease.specs.Moves.{is_held_overdue};
 
 use crate::free::Free;
 use crate::proposer::{Proposer, has_run_out, is_inside};
@@ -83,6 +84,17 @@ impl Held {
             proposer,
             end,
             renewal: None,
+        }
+    }
+
+    /// Another one in the same state.
+    pub fn same(&self) -> Held
+        ensures { result ≡ self.now }
+    {
+        Held {
+            proposer: self.proposer,
+            end: self.end,
+            renewal: self.renewal,
         }
     }
 
@@ -253,6 +265,16 @@ impl Held {
         ensures { result ≡ renewal_round self.now.renewal }
     {
         self.renewal.map(|round| (round.ballot(), round.lease()))
+    }
+
+    /// Whether the clock `now`, below 2^62, has come within the drift of the lease's end, or half the lease length has passed
+    /// since the start of the renewal.
+    pub fn is_overdue(&self, now: u64) -> bool
+        requires { now < 2 ^ 62 }
+        ensures { result ≡ is_held_overdue self.now now }
+    {
+        !is_inside(self.end, &self.proposer.times(), now)
+            || self.renewal.is_some_and(|round| has_run_out(&round, now))
     }
 
     /// Ends the renewal once half the lease length has passed since its start.

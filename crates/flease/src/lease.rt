@@ -1,8 +1,8 @@
-ghost use Rattle.std.specs.Prelude.{◌≡◌, ◌<◌, ◌^◌, IsTrue};
+ghost use Rattle.std.specs.Prelude.{◌≡◌, ◌<◌, ◌^◌, false, IsTrue};
 ghost use Rattle.xt_protocol.specs.LeaseRows as rows;
 ghost use Rattle.flease.specs.Shown.{expiry_of, shown_news, news_by};
 ghost use Rattle.flease.specs.States.{shown};
-ghost use Rattle.flease.specs.Moves.{IsSettled, asks_at, ballot_asked, renews_at, ballot_renewed, turn_of, is_free};
+ghost use Rattle.flease.specs.Moves.{IsSettled, asks_at, ballot_asked, renews_at, ballot_renewed, turn_of, is_free, is_overdue, NothingOverdue};
 
 use crate::asking::{Asked, Asking};
 use crate::free::Free;
@@ -51,11 +51,36 @@ impl FileLease {
         }
     }
 
+    /// Another one in the same state.
+    pub fn same(&self) -> FileLease
+        ensures { result ≡ self.now }
+    {
+        FileLease {
+            awake: self.awake,
+            state: same_state(&self.state),
+        }
+    }
+
     /// The state, moved out: another one is to be put in its place.
     fn take(&mut self) -> State
         ensures { shown result ≡ self.old }
     {
         mem::replace(&mut self.state, State::Free(Free::new(self.awake)))
+    }
+
+    /// Whether something is overdue at the clock `now`: a round or a renewal has run for half the lease length, or the clock has
+    /// come within the drift of the end of a lease. Where nothing is, [`FileLease::expire`] changes nothing.
+    pub fn is_overdue(&self, now: u64) -> bool
+        requires { now < 2 ^ 62 }
+        ensures exact { result ≡ is_overdue self.now now }
+        ensures nothing { result ≡ false → NothingOverdue self.now now }
+    {
+        match &self.state {
+            State::Free(_) => false,
+            State::Asking(round) => round.has_run_out(now),
+            State::Writing(round) => round.has_run_out(now),
+            State::Held(held) => held.is_overdue(now),
+        }
     }
 
     /// Ends what is overdue at the clock `now`: a round or a renewal that has run for half the lease length; a lease with whose
@@ -156,6 +181,18 @@ impl FileLease {
         ensures { result ≡ is_free self.now }
     {
         matches!(self.state, State::Free(_))
+    }
+}
+
+/// Another state like this one.
+fn same_state(state: &State) -> State
+    ensures { shown result ≡ shown state.now }
+{
+    match state {
+        State::Free(free) => State::Free(free.same()),
+        State::Asking(round) => State::Asking(round.same()),
+        State::Writing(round) => State::Writing(round.same()),
+        State::Held(held) => State::Held(held.same()),
     }
 }
 

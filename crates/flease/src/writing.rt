@@ -44,6 +44,13 @@ impl Writing {
         Writing { round }
     }
 
+    /// Another round in the same state.
+    pub fn same(&self) -> Writing
+        ensures { result ≡ self.now }
+    {
+        Writing { round: self.round }
+    }
+
     /// Takes a promise of this round, at the clock `now`. A Write goes to those named.
     pub fn promise(
         self,
