@@ -9,34 +9,14 @@ use Rattle.xt_messages.specs.declared.file.Session.{Session}
 use Rattle.xt_messages.specs.declared.file.FileHead.{FileHead}
 use Rattle.xt_messages.specs.declared.file.Update.{Update}
 use Rattle.xt_base.specs.declared.TheConstants.{OBJECTS, CLIENTS, COUNTS, NO_OBJECT}
-use Rattle.xt_messages.specs.Limits.{FitsEpoch, FitsStamp, FitsOpId, FitsMark, FitsHead, FitsVersion, FitsSession, FitsUpdate, IsObjectOrNone, is_at_most, rise}
+use Rattle.xt_messages.specs.Limits.{FitsStamp, FitsOpId, FitsMark, FitsHead, FitsVersion, FitsSession, FitsUpdate, IsObjectOrNone, is_at_most, rise}
 use Rattle.xt_protocol.specs.Stamps.{is_earlier}
 use Rattle.xt_protocol.specs.Heads.{head_after, versions_below}
-use Rattle.object_versions.specs.Rising.{HeadRises}
 use Rattle.xt_protocol.specs.ReplicaRows.{head_fits}
 use Rattle.object_versions.proofs.HeadLimits.{when, objects_of, below_all, version_all, session_all, below_still_rise, versions_still_rise, sessions_still_rise}
 
-at_most_along : (a b c : Epoch) → is_at_most a b ≡ true → is_at_most b c ≡ true → is_at_most a c ≡ true
-at_most_along a b c first second = grind (arith, nat_tests)
-
 pub earlier_at_most : (a b : Epoch) → is_earlier a b ≡ true → is_at_most a b ≡ true
 earlier_at_most a b is = grind (arith, nat_tests)
-
--- neither is earlier than the other
-pub neither_at_most : (a b : Epoch) → is_earlier b a ≡ false → is_at_most a b ≡ true
-neither_at_most a b differ = grind (arith, nat_tests)
-
-pub promised_fits : (head : FileHead) (epoch : Epoch) → FitsHead head → FitsEpoch epoch → is_at_most head.promised epoch ≡ true → FitsHead (record head { promised = epoch })
-promised_fits head epoch fits new le =
-    record {
-      promise = new;
-      place = fits.place;
-      operation = fits.operation;
-      after = fits.after;
-      objects = fits.objects;
-      clients = fits.clients;
-      kept = at_most_along head.stamp.epoch head.promised epoch fits.kept le;
-    }
 
 -- what the test of a head after an update says
 record Room (head : FileHead) : Type 0 where
@@ -101,6 +81,3 @@ taken_fits head update fits new le test =
 pub update_fits : (head : FileHead) (update : Update) → FitsHead head → FitsUpdate update → is_at_most update.stamp.epoch head.promised ≡ true → head_fits (head_after head update) ≡ true → FitsHead (head_after head update)
 update_fits head update fits new le test =
     taken_fits head update fits (record { place = new.place; operation = new.operation; after = new.after; gets = new.gets }) le test
-
-pub head_rises : (head : FileHead) → FitsHead head → HeadRises head
-head_rises head fits = record { versions = fits.objects.rising; sessions = fits.clients.rising }

@@ -13,10 +13,11 @@ use Rattle.xt_protocol.specs.Heads.{head_after}
 abbrev pub kept_row : FileId → FileHead → List ObjectVersion → FileRow
 kept_row file head held = record { file = file; head = head; held = held; location = None }
 
--- What is noted in the own replica: by a primary a promise that isn't below the one before, or a body; by a member of a striped file
--- an update, whose head is within its limits.
+-- What is noted in a replica: a promise that isn't below the one before, a body, a head within its limits, or an update whose head is
+-- within its limits.
 abbrev pub IsNotable : FileRow → Record → Type 0
 IsNotable row (kept.Promise file epoch) = FitsEpoch epoch × IsTrue (is_at_most row.head.promised epoch)
 IsNotable row (kept.Stage file object version bytes) = Unit {0}
+IsNotable row (kept.Head file head) = FitsHead head
 IsNotable row (kept.Update file update) = FitsHead (head_after row.head update)
 IsNotable row _ = ⊥

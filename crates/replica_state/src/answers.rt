@@ -1,9 +1,8 @@
-ghost use Rattle.std.specs.Prelude.{◌≡◌, ℕ, List, IfOk, IfSome, IfNone, OnOk, OnErr, IsTrue, MatchOption, None, Some, unwrap_or};
+ghost use Rattle.std.specs.Prelude.{◌≡◌, ℕ, List, IfOk, IfSome, IfNone, IsTrue, None, Some, unwrap_or};
 ghost use Rattle.xt_base.specs.declared.ids.Stamp.{Stamp};
 ghost use Rattle.xt_messages.specs.declared.file.ObjectVersion.{ObjectVersion};
 ghost use Rattle.xt_messages.specs.declared.record.Record.TheVariants as kept;
 ghost use Rattle.xt_messages.specs.Limits.{is_at_most};
-ghost use Rattle.xt_protocol.specs.Stamps.{with_held};
 ghost use Rattle.xt_protocol.specs.declared.states.Acted.{Acted};
 ghost use Rattle.xt_messages.specs.declared.message.Payload.TheVariants as payload;
 ghost use Rattle.xt_protocol.specs.ReplicaRows.{unanswered, only, after_record, refused, behind, as_promised, staged, stage_record, first_missing, head_offered, headed, head_fits, update_offered, updated};
@@ -11,7 +10,7 @@ ghost use Rattle.xt_protocol.specs.Heads.{head_after};
 ghost use Rattle.object_versions.specs.Rising.{HeadRises};
 
 use object_versions::{
-    first_missing, hold, holds, is_below, is_earlier, is_epoch, sessions_after, versions_after,
+    first_missing, holds, is_below, is_earlier, is_epoch, sessions_after, versions_after,
 };
 use std::alloc::Global;
 use xt_base::{CLIENTS, COUNTS, Copies, Epoch, FileId, OBJECTS, Octets, OutOfMemory, Stamp};
@@ -245,29 +244,24 @@ pub fn body_turned_away(file: &FileId, own: &FileHead, epoch: Epoch) -> Option<A
     turned_away(file, own, epoch)
 }
 
-/// Holds a body that isn't held yet, and gives its record. Where memory runs out, the held bodies are as they were.
-pub fn hold_body(
+/// The record of a body, unless it is held.
+pub fn stage_record(
     alloc: Global,
     file: &FileId,
-    held: &mut HeldSet,
+    held: &HeldSet,
     body: ObjectVersion,
     bytes: &Octets,
 ) -> Result<Option<Record>, OutOfMemory>
-    ensures rec { IfOk result (λ rec. rec ≡
-        stage_record file.now held.old body.object body.version bytes.now) }
-    ensures held { IfOk result (λ rec.
-        MatchOption rec (held.new ≡ held.old) (λ _. held.new ≡ with_held held.old body)) }
-    ensures same { OnErr result (held.new ≡ held.old) }
+    ensures { IfOk result (λ rec. rec ≡
+        stage_record file.now held.now body.object body.version bytes.now) }
 {
     if holds(held, body) {
         return Ok(None);
     }
-    let bytes = bytes.copy(alloc)?;
-    hold(held, body)?;
     Ok(Some(Record::Stage {
         file: *file,
         object: body.object,
         version: body.version,
-        bytes,
+        bytes: bytes.copy(alloc)?,
     }))
 }

@@ -1,13 +1,13 @@
-ghost use Rattle.std.specs.Prelude.{◌≡◌, IfOk, OnOk, OnErr};
+ghost use Rattle.std.specs.Prelude.{◌≡◌, IfOk, IfSome, OnOk, OnErr};
 ghost use Rattle.xt_messages.specs.Limits.{FitsEpoch, FitsHead, FitsUpdate};
 ghost use Rattle.xt_protocol.specs.Folds.{row_after};
 ghost use Rattle.xt_protocol.specs.Forgetting.{row_without};
-ghost use Rattle.xt_protocol.specs.ReplicaRows.{kept_after, gathered, staged, headed, updated};
+ghost use Rattle.xt_protocol.specs.ReplicaRows.{gathered, staged, headed, updated};
 ghost use Rattle.replica_state.specs.Kept.{kept_row, IsNotable};
 
 use crate::answers::{
-    acknowledgement, after_record, body_turned_away, head_turned_away, hold_body, only,
-    plain_status, promised_status, refused, update_turned_away,
+    acknowledgement, after_record, body_turned_away, head_turned_away, only, plain_status,
+    promised_status, refused, stage_record, update_turned_away,
 };
 use object_versions::{SoughtBodies, forget_held, hold, is_earlier, take_update};
 use std::alloc::Global;
@@ -73,14 +73,14 @@ impl Replica {
         &self.held
     }
 
-    /// Gathered: an epoch that isn't earlier than the promised one is promised, and the head reported; else it is refused.
-    #[tactic(auto, unfolding(xt_protocol::specs::ReplicaRows::gathered), using(crate::proofs::HeadFits::promised_fits, crate::proofs::HeadFits::earlier_at_most))]
-    pub fn on_gather(&mut self, epoch: &Epoch) -> Result<Acted, OutOfMemory>
+    /// Gathered: an epoch that isn't earlier than the promised one is to be promised, and the head reported; else it is refused.
+    /// Nothing changes: `note` takes the record.
+    #[tactic(auto, unfolding(xt_protocol::specs::ReplicaRows::gathered), using(crate::proofs::HeadFits::earlier_at_most))]
+    pub fn on_gather(&self, epoch: &Epoch) -> Result<Acted, OutOfMemory>
         requires { FitsEpoch epoch.now }
         ensures row { IfOk result (λ acted. acted ≡
-            gathered self.old.file self.old.head epoch.now) }
-        ensures kept { IfOk result (λ acted. self.new ≡ kept_after self.old acted.rec) }
-        ensures same { OnErr result (self.new ≡ self.old) }
+            gathered self.now.file self.now.head epoch.now) }
+        ensures notable { IfOk result (λ acted. IfSome acted.rec (IsNotable self.now)) }
     {
         let (file, epoch) = (self.file, *epoch);
         if is_earlier(epoch, self.head.promised) {
@@ -90,30 +90,29 @@ impl Replica {
             return Ok(only(plain_status(self.alloc, &file, &self.head, epoch)?));
         }
         let status = promised_status(self.alloc, &file, &self.head, epoch)?;
-        self.head.promised = epoch;
         Ok(after_record(Record::Promise { file, epoch }, status))
     }
 
-    /// Staged: a body is held from now on. One that is held already is acknowledged again.
+    /// Staged: a body is to be held from now on. One that is held already is acknowledged again. Nothing changes: `note` takes
+    /// the record.
     pub fn on_stage(
-        &mut self,
+        &self,
         epoch: &Epoch,
         object: u64,
         version: &Stamp,
         bytes: &Octets,
     ) -> Result<Acted, OutOfMemory>
         ensures row { IfOk result (λ acted. acted ≡
-            staged self.old.file self.old.head self.old.held epoch.now object version.now
+            staged self.now.file self.now.head self.now.held epoch.now object version.now
             bytes.now) }
-        ensures kept { IfOk result (λ acted. self.new ≡ kept_after self.old acted.rec) }
-        ensures same { OnErr result (self.new ≡ self.old) }
+        ensures notable { IfOk result (λ acted. IfSome acted.rec (IsNotable self.now)) }
     {
         let (file, epoch, version) = (self.file, *epoch, *version);
         match body_turned_away(&file, &self.head, epoch) {
             Some(acted) => Ok(acted),
             None => {
                 let body = ObjectVersion { object, version };
-                let rec = hold_body(self.alloc, &file, &mut self.held, body, bytes)?;
+                let rec = stage_record(self.alloc, &file, &self.held, body, bytes)?;
                 Ok(Acted {
                     rec,
                     answer: Some(Payload::Staged {
@@ -127,14 +126,13 @@ impl Replica {
         }
     }
 
-    /// Head taken: a head of the promised epoch that is above the own one takes its place, where each version that it names
-    /// is held.
-    pub fn on_head(&mut self, epoch: &Epoch, head: &FileHead) -> Result<Acted, OutOfMemory>
+    /// Head taken: a head of the promised epoch that is above the own one is to take its place, where each version that it names
+    /// is held. Nothing changes: `note` takes the record.
+    pub fn on_head(&self, epoch: &Epoch, head: &FileHead) -> Result<Acted, OutOfMemory>
         requires { FitsHead head.now }
         ensures row { IfOk result (λ acted. acted ≡
-            headed self.old.file self.old.head self.old.held epoch.now head.now) }
-        ensures kept { IfOk result (λ acted. self.new ≡ kept_after self.old acted.rec) }
-        ensures same { OnErr result (self.new ≡ self.old) }
+            headed self.now.file self.now.head self.now.held epoch.now head.now) }
+        ensures notable { IfOk result (λ acted. IfSome acted.rec (IsNotable self.now)) }
     {
         let file = self.file;
         match head_turned_away(&file, &self.head, &self.held, *epoch, head) {
@@ -144,20 +142,19 @@ impl Replica {
                     file,
                     head: head.copy(self.alloc)?,
                 };
-                self.head = head.copy(self.alloc)?;
                 Ok(after_record(rec, acknowledgement(&file, head.stamp)))
             }
         }
     }
 
-    /// Update taken: the next update of the promised epoch changes the head, and its body is held.
+    /// Update taken: the next update of the promised epoch is to change the head, and its body to be held. Nothing changes:
+    /// `note` takes the record.
     #[tactic(auto, using(crate::proofs::HeadFits::update_fits))]
-    pub fn on_update(&mut self, update: &Update) -> Result<Acted, OutOfMemory>
+    pub fn on_update(&self, update: &Update) -> Result<Acted, OutOfMemory>
         requires { FitsUpdate update.now }
         ensures row { IfOk result (λ acted. acted ≡
-            updated self.old.file self.old.head update.now) }
-        ensures kept { IfOk result (λ acted. self.new ≡ kept_after self.old acted.rec) }
-        ensures same { OnErr result (self.new ≡ self.old) }
+            updated self.now.file self.now.head update.now) }
+        ensures notable { IfOk result (λ acted. IfSome acted.rec (IsNotable self.now)) }
     {
         let file = self.file;
         match update_turned_away(&file, &self.head, update) {
@@ -167,14 +164,13 @@ impl Replica {
                     file,
                     update: update.copy(self.alloc)?,
                 };
-                take_update(&mut self.head, &mut self.held, update)?;
                 Ok(after_record(rec, acknowledgement(&file, update.stamp)))
             }
         }
     }
 
-    /// Takes what was recorded of the own replica: a promise of its primary that isn't below the one before, a body, or an update of a
-    /// striped file.
+    /// Takes what was recorded of the file: a promise, a body, a head in the place of the own one, or an update. Where memory
+    /// runs out, the replica is as it was.
     pub fn note(&mut self, rec: &Record) -> Result<(), OutOfMemory>
         requires { IsNotable self.old rec.now }
         ensures kept { OnOk result (self.new ≡ row_after self.old rec.now) }
@@ -196,6 +192,7 @@ impl Replica {
                     version: *version,
                 },
             )?,
+            Record::Head { head, .. } => self.head = head.copy(self.alloc)?,
             _ => unreachable!(),
         }
         Ok(())
@@ -206,5 +203,18 @@ impl Replica {
         ensures { self.new ≡ row_without keep.now self.old }
     {
         forget_held(&mut self.held, &self.file, keep);
+    }
+}
+
+impl Copies for Replica {
+    fn copy(&self, alloc: Global) -> Result<Replica, OutOfMemory> {
+        Ok(Replica {
+            alloc,
+            file: self.file,
+            head: self.head.copy(alloc)?,
+            held: HeldSet {
+                versions: self.held.versions.clone()?,
+            },
+        })
     }
 }
