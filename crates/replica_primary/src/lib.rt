@@ -7,6 +7,7 @@
 #![tactic(auto)]
 
 mod acking;
+mod copying;
 mod drawing;
 mod feeding;
 mod fetching;

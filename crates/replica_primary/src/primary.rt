@@ -15,6 +15,7 @@ ghost use Rattle.replica_primary.specs.Phases.{phase_in, phase_of};
 ghost use Rattle.replica_primary.specs.Rests.{chosen_by, rested_on, rests_on};
 ghost use Rattle.std.specs.Option.{option_map};
 
+use crate::copying::copy_state;
 use crate::drawing::draw_epoch;
 use crate::hearing::hears;
 use crate::moving::put;
@@ -27,7 +28,7 @@ use osd_decisions::{reads_under, statuses_counted};
 use peer_searches::Searches;
 use std::alloc::Global;
 use std::marker::Model;
-use xt_base::{FileId, Members, NodeId, OpId, OutOfMemory};
+use xt_base::{Copies, FileId, Members, NodeId, OpId, OutOfMemory};
 use xt_messages::{FileHead, HeldSet, Op, Payload, Reply};
 use xt_protocol::{Peer, PeerState, Place, PrimaryState, Progress, Tenure, Turned};
 
@@ -261,6 +262,17 @@ impl Primary {
             Some(tenure) => rested_on(self.place.node, tenure.peers.as_slice(), &tenure.progress),
             None => None,
         }
+    }
+}
+
+impl Copies for Primary {
+    fn copy(&self, alloc: Global) -> Result<Primary, OutOfMemory> {
+        let state = copy_state(alloc, &self.state)?;
+        Ok(Primary {
+            alloc,
+            place: self.place,
+            state,
+        })
     }
 }
 
