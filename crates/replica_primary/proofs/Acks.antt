@@ -1,9 +1,10 @@
 -- what an acknowledgement does, as the code puts it
-use Rattle.std.proofs.Common.{◌≡◌, ◌∙◌, ◌∷◌, [], ℕ, Bool, true, false, Some, None, List, refl, ap, sym}
-use Rattle.std.specs.Prelude.{cond, not}
+use Rattle.std.proofs.Common.{◌≡◌, ◌∙◌, ◌∷◌, [], ℕ, Bool, true, false, Option, Some, None, List, refl, ap, sym, suc}
+use Rattle.std.specs.Prelude.{cond, not, ◌&&◌, ◌==◌, ◌+◌, ◌/◌, nat_le, length}
 use Rattle.xt_base.specs.declared.ids.Epoch.{Epoch}
 use Rattle.xt_base.specs.declared.ids.NodeId.{NodeId}
 use Rattle.xt_base.specs.declared.ids.Stamp.{Stamp}
+use Rattle.xt_base.specs.MemberList.{has_node}
 use Rattle.xt_messages.specs.declared.file.FileHead.{FileHead}
 use Rattle.xt_messages.specs.declared.file.Update.{Update}
 use Rattle.xt_messages.specs.declared.message.Payload.TheVariants as payload
@@ -11,14 +12,52 @@ use Rattle.xt_protocol.specs.declared.turned.Turned.{Turned}
 use Rattle.xt_protocol.specs.Stamps.{is_below}
 use Rattle.xt_protocol.specs.declared.states.IssuedUpdate.{IssuedUpdate}
 use Rattle.xt_protocol.specs.declared.states.Peer.{Peer}
+use Rattle.xt_protocol.specs.declared.states.PeerState.{PeerState}
 use Rattle.xt_protocol.specs.declared.states.PeerState.TheVariants as peer
+use Rattle.xt_protocol.specs.declared.states.Place.{Place}
 use Rattle.xt_protocol.specs.declared.states.Progress.{Progress}
 use Rattle.xt_protocol.specs.declared.states.Progress.TheVariants as progress
 use Rattle.xt_protocol.specs.declared.states.Tenure.{Tenure}
 use Rattle.xt_protocol.specs.Turns.{message, quiet, sends}
-use Rattle.xt_protocol.specs.Primaries.{Ground, is_active_in, issued_in, with_node, with_peer}
+use Rattle.xt_protocol.specs.Primaries.{Ground, Led, carries, is_active_in, issued_in, with_node, with_peer}
 use Rattle.xt_protocol.specs.PrimaryRows.{goes_on, hears_ack, unmoved, ack_update}
-use Rattle.replica_primary.specs.Acks.{acked_by, is_installing, peers_after}
+use Rattle.replica_primary.specs.Acks.{acked_by, acked_in, current_after, is_installing, peers_after, report_majority, with_ack}
+
+-- A peer that becomes current after its acknowledgement was counted.
+
+peers_count : (peers : List Peer) (node : NodeId) (state : PeerState) → length (with_peer peers node state) ≡ length peers
+unfolding with_peer
+peers_count [] node state = refl
+peers_count (p ∷ ps) node state = one_of (p.node.0 == node.0) (peers_count ps node state)
+  where
+    one_of : (b : Bool) → length (with_peer ps node state) ≡ length ps → length (cond b (record { node = p.node; state = state } ∷ ps) (p ∷ with_peer ps node state)) ≡ suc (length ps)
+    one_of true rest = refl
+    one_of false rest = ap suc rest
+
+carried_still : (place : Place) (peers : List Peer) (from : NodeId) (newly : Bool) (acked : List NodeId) → carries place peers acked ≡ carries place (peers_after peers from newly) acked
+carried_still place peers from true acked = ap (λ (n : ℕ). nat_le (n / 2 + 1) (length acked) && has_node acked place.node.0) (sym (peers_count peers from peer.Current))
+carried_still place peers from false acked = refl
+
+module _ (from : NodeId) (newly : Bool) where
+  abbrev current_under : Option Tenure → Option Tenure
+  current_under None = None
+  current_under (Some t) = Some (current_after t from newly)
+
+  abbrev current : Led → Led
+  current led = record { primary = record { learnt = led.primary.learnt; tenure = current_under led.primary.tenure }; turned = led.turned }
+
+  either : (b c : Bool) (x y : Led) → b ≡ c → current (cond b x y) ≡ cond c (current x) (current y)
+  either true c x y is = ap (λ (d : Bool). cond d (current x) (current y)) is
+  either false c x y is = ap (λ (d : Bool). cond d (current x) (current y)) is
+
+  pub current_later : (place : Place) (own : FileHead) (learnt : ℕ) (t after : Tenure) (turned : Turned) → goes_on learnt after turned ≡ acked_by place own learnt t from
+      → goes_on learnt (current_after after from newly) turned ≡ acked_by place own learnt (current_after t from newly) from
+  current_later place own learnt t after turned is =
+      let acked = with_node (acked_in t.progress) from in
+      ap current is
+      ∙ either (carries place t.peers acked) (carries place (peers_after t.peers from newly) acked)
+      (goes_on learnt (record t { progress = progress.Active own None }) (report_majority place own t.progress)) (unmoved learnt (record t { progress = with_ack t.progress from }))
+      (carried_still place t.peers from newly acked)
 
 -- the head that is installed is acknowledged
 pub installing_by : (g : Ground) (learnt : ℕ) (t : Tenure) (from : NodeId) (stamp : Stamp) (p : Progress) → is_installing p ≡ true

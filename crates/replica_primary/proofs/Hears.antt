@@ -31,7 +31,6 @@ use Rattle.xt_protocol.specs.PrimaryRows as rows
 use Rattle.xt_protocol.specs.Turns.{message, quiet, sends}
 use Rattle.osd_decisions.specs.Reports.{best_report}
 use Rattle.replica_primary.specs.declared.moving.Heard.TheVariants as heard
-use Rattle.replica_primary.specs.declared.moving.Next.TheVariants as step
 use Rattle.replica_primary.specs.Shown.{shown_progress, shown_tenure}
 use Rattle.replica_primary.specs.Moves.{any_report, beyond, feeds_any, is_asked, is_to_feed, kept_of, led_by, outpromised, source_in}
 
@@ -161,7 +160,7 @@ keep_at : (p : Peer) (peers : List Peer) (node : NodeId) (state : PeerState) (b 
 keep_at p peers node state true rest is = let same : p.state ≡ state = cc in ap (λ (s : PeerState). let q : Peer = record { node = p.node; state = s } in q ∷ peers) (sym same)
 keep_at p peers node state false rest is = ap (λ (ps : List Peer). p ∷ ps) (rest is)
 
-keep_peer : (peers : List Peer) (node : NodeId) (state : PeerState) → peer_in peers node ≡ Some state → with_peer peers node state ≡ peers
+pub keep_peer : (peers : List Peer) (node : NodeId) (state : PeerState) → peer_in peers node ≡ Some state → with_peer peers node state ≡ peers
 unfolding peer_in with_peer
 keep_peer [] node state is = absurd cc
 keep_peer (p ∷ peers) node state is = keep_at p peers node state (p.node.0 == node.0) (keep_peer peers node state) is
@@ -257,7 +256,7 @@ module _ (g : Ground) (learnt : ℕ) (t : Tenure) where
       ∙ ap (λ (s : Option PeerState). hears_member g learnt t from s content) is)
 
   redraw : (from : NodeId) (b : Bool) (above : ℕ)
-      → led_by g learnt from t (cond b (heard.Redraws above) (heard.GoesOn (step.Gives quiet))) ≡ cond b (draw_epoch g.place above g.own (nodes_of t.peers)) (unmoved learnt t)
+      → led_by g learnt from t (cond b (heard.Redraws above) (heard.Counts quiet)) ≡ cond b (draw_epoch g.place above g.own (nodes_of t.peers)) (unmoved learnt t)
   redraw from true above = refl
   redraw from false above = refl
 

@@ -6,4 +6,5 @@ pub mod Acks
 pub mod Hears
 pub mod InOrder
 pub mod Sought
+pub mod Staged
 mod Places

@@ -46,12 +46,15 @@ report_majority place own _ = shows (mark.Active place.file.number own.stamp.cou
 -- a tenure whose head or issued update a node has acknowledged
 abbrev pub acked_by : Place → FileHead → ℕ → Tenure → NodeId → Led
 acked_by place own learnt t from =
-    let p = with_ack t.progress from in
-    if carries place t.peers (acked_in p)
-    then goes_on learnt (record t { progress = progress.Active own None }) (report_majority place own p)
-    else unmoved learnt (record t { progress = p })
+    if carries place t.peers (with_node (acked_in t.progress) from)
+    then goes_on learnt (record t { progress = progress.Active own None }) (report_majority place own t.progress)
+    else unmoved learnt (record t { progress = with_ack t.progress from })
 
 -- the peers after an acknowledgement, which may have made its sender current
 abbrev pub peers_after : List Peer → NodeId → Bool → List Peer
 peers_after peers from true = with_peer peers from peer.Current
 peers_after peers from false = peers
+
+-- a tenure after an acknowledgement, which may have made its sender current
+abbrev pub current_after : Tenure → NodeId → Bool → Tenure
+current_after t from newly = record t { peers = peers_after t.peers from newly }

@@ -1,5 +1,6 @@
 -- a peer that is brought to a head
-use Rattle.std.specs.Prelude.{ℕ, ◌≡◌, Bool, true, false, Option, Some}
+use Rattle.std.specs.Prelude.{ℕ, ◌≡◌, Bool, true, false, Option, Some, List}
+use Rattle.xt_messages.specs.declared.file.ObjectVersion.{ObjectVersion}
 use Rattle.xt_messages.specs.declared.file.FileHead.{FileHead}
 use Rattle.xt_protocol.specs.declared.states.PeerState.{PeerState}
 use Rattle.xt_protocol.specs.declared.states.PeerState.TheVariants as peer
@@ -25,3 +26,9 @@ of_own (target.Under head epoch) passed = 0
 abbrev pub is_at_head : Option PeerState → Bool
 is_at_head (Some (peer.Heading known head)) = true
 is_at_head _ = false
+
+-- the state of a peer that was sent a body or a head, with these versions in place of those that were known
+abbrev pub with_known : PeerState → List ObjectVersion → PeerState
+with_known (peer.Feeding before object version body) known = peer.Feeding known object version body
+with_known (peer.Heading before head) known = peer.Heading known head
+with_known state known = state

@@ -36,7 +36,7 @@ peers_under (Some t) = t.peers
 
 -- outpromised: a new epoch is drawn above the higher number
 abbrev pub outpromised : ℕ → Epoch → Epoch → Heard
-outpromised learnt epoch promised = if is_earlier epoch promised then heard.Redraws (max learnt promised.number) else heard.GoesOn (step.Gives quiet)
+outpromised learnt epoch promised = if is_earlier epoch promised then heard.Redraws (max learnt promised.number) else heard.Counts quiet
 
 -- the record of a body that was just fetched, where there is one
 abbrev pub kept_of : FileId → Option FetchedBody → Option Record
@@ -90,13 +90,20 @@ led_by g learnt from t (heard.Staged v) = stages_in g learnt t from (peer_in t.p
 led_by g learnt from t (heard.Missed v) = misses_in g learnt t from (peer_in t.peers from) v
 led_by g learnt from t (heard.Redraws above) = draw_epoch g.place above g.own (nodes_of t.peers)
 
--- What was heard leaves the searches for what peers lack as sound as they were. Of the other messages it isn't said.
-abbrev pub LeavesSearches : List Peer → List Peer → Heard → Type 0
-LeavesSearches old new (heard.Counts turned) = (versions : List ObjectVersion) (searches : List Search) → AreSound versions old searches → AreSound versions new searches
-LeavesSearches old new (heard.Staged v) = (versions : List ObjectVersion) (searches : List Search) → AreSound versions old searches → AreSound versions new searches
-LeavesSearches old new (heard.GoesOn n) = Unit {0}
-LeavesSearches old new (heard.Missed v) = Unit {0}
-LeavesSearches old new (heard.Redraws above) = Unit {0}
+-- what a primary takes in place, so that it is as it was after an error
+abbrev pub is_light_led : Payload → Bool
+is_light_led (payload.Ack file stamp) = true
+is_light_led (payload.Staged file epoch object version) = true
+is_light_led _ = false
+
+-- What was heard of a message before a body is read for it. Of one that is taken in place either all is done, and the searches for what
+-- peers lack are as sound as they were; or nothing is done yet.
+abbrev pub IsHeardOf : Payload → Tenure → Tenure → Heard → Type 0
+IsHeardOf content old new (heard.Counts turned) = (versions : List ObjectVersion) (searches : List Search) → AreSound versions old.peers searches → AreSound versions new.peers searches
+IsHeardOf content old new (heard.Staged v) = new ≡ old
+IsHeardOf content old new (heard.GoesOn n) = is_light_led content ≡ false
+IsHeardOf content old new (heard.Missed v) = is_light_led content ≡ false
+IsHeardOf content old new (heard.Redraws above) = is_light_led content ≡ false
 
 -- whether a message is one that reports what became of a body that was sent, is an acknowledgement, or ends a tenure
 abbrev pub is_apart : Payload → Bool

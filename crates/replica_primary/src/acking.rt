@@ -1,24 +1,24 @@
-ghost use Rattle.std.specs.Prelude.{◌≡◌, ◌∷◌, if◌then◌else◌, [], ℕ, List, None, Some, MatchOption, IfOk, IsTrue, OnOk};
+ghost use Rattle.std.specs.Prelude.{◌≡◌, ◌∷◌, if◌then◌else◌, [], ℕ, List, None, Some, MatchOption, IfOk, IsTrue, OnErr, OnOk};
 ghost use Rattle.xt_messages.specs.declared.file.ObjectVersion.{ObjectVersion};
 ghost use Rattle.xt_base.specs.declared.ids.Stamp.{Stamp};
 ghost use Rattle.xt_messages.specs.declared.message.Payload.TheVariants as payload;
 ghost use Rattle.xt_messages.specs.declared.record.Record.{Record};
 ghost use Rattle.xt_protocol.specs.declared.states.Progress.TheVariants as progress;
 ghost use Rattle.xt_protocol.specs.Turns.{message, quiet, sends};
-ghost use Rattle.xt_protocol.specs.Primaries.{carries, is_active_in, issued_in};
+ghost use Rattle.xt_protocol.specs.Primaries.{carries, is_active_in, issued_in, with_node};
 ghost use Rattle.xt_protocol.specs.PrimaryRows as rows;
 ghost use Rattle.xt_protocol.specs.PrimaryRows.{goes_on};
 ghost use Rattle.replica_primary.specs.Written.{ground};
-ghost use Rattle.replica_primary.specs.Acks.{acked_by, acked_in, report_majority, report_commit, is_installing, peers_after, with_ack};
+ghost use Rattle.replica_primary.specs.Acks.{acked_by, acked_in, report_majority, report_commit, is_installing, peers_after, current_after, with_ack};
 
 use crate::known::add_node;
 use crate::moving::advance;
 use crate::peers::set_peer;
 use crate::serving::send_update;
 use object_versions::is_below;
-use osd_decisions::carries;
+use osd_decisions::{carries, is_majority};
 use std::alloc::Global;
-use xt_base::{Copies, NodeId, Octets, OutOfMemory, Seq, Stamp};
+use xt_base::{Copies, NodeId, Octets, OutOfMemory, Seq, Stamp, has_node};
 use xt_messages::{FileHead, Mark, Update};
 use xt_protocol::{
     IssuedUpdate, PeerState, Peers, Place, Progress, Tenure, Turned, answers, join, quiet, sends,
@@ -53,7 +53,8 @@ fn acked_in(progress: &Progress) -> &[NodeId]
 
 /// A node has acknowledged the head that is installed, or the update that is issued.
 fn count_ack(progress: &mut Progress, node: NodeId) -> Result<(), OutOfMemory>
-    ensures { OnOk result (progress.new ≡ with_ack progress.old node) }
+    ensures ok { OnOk result (progress.new ≡ with_ack progress.old node) }
+    ensures err { OnErr result (progress.new ≡ progress.old) }
 {
     match progress {
         Progress::Installing { acked, .. } => add_node(acked, node),
@@ -65,15 +66,17 @@ fn count_ack(progress: &mut Progress, node: NodeId) -> Result<(), OutOfMemory>
     }
 }
 
-/// Whether a majority has acknowledged, the own node among it.
-fn is_carried(place: &Place, tenure: &Tenure) -> bool
-    ensures { result ≡ carries place.now tenure.now.peers (acked_in tenure.now.progress) }
+/// Whether a majority has acknowledged once this node has, the own node among it.
+fn is_carried_by(place: &Place, tenure: &Tenure, node: NodeId) -> bool
+    ensures { result ≡
+        carries place.now tenure.now.peers (with_node (acked_in tenure.now.progress) node) }
 {
-    carries(
-        place.node,
-        tenure.peers.as_slice(),
-        acked_in(&tenure.progress),
-    )
+    let (own, peers) = (place.node, tenure.peers.as_slice());
+    let acked = acked_in(&tenure.progress);
+    if has_node(acked, node) {
+        return carries(own, peers, acked);
+    }
+    is_majority(peers, acked.len() + 1) && (has_node(acked, own) || node.0 == own.0)
 }
 
 /// A commit of this update: its mark, and the answer to its client.
@@ -130,7 +133,7 @@ fn serve_from(tenure: &mut Tenure, committed: FileHead)
 }
 
 /// A node has acknowledged the head that is installed, or the issued update. Once a majority has it, the own node among it, the
-/// primary is activated, or the update is committed.
+/// primary is activated, or the update is committed. Where memory runs out, the tenure is as it was.
 fn acked_by(
     alloc: Global,
     place: &Place,
@@ -138,11 +141,12 @@ fn acked_by(
     own: &FileHead,
     from: NodeId,
 ) -> Result<Turned, OutOfMemory>
-    ensures { IfOk result (λ turned. (learnt : ℕ) →
+    ensures value { IfOk result (λ turned. (learnt : ℕ) →
         goes_on learnt tenure.new turned ≡ acked_by place.now own.now learnt tenure.old from) }
+    ensures same { OnErr result (tenure.new ≡ tenure.old) }
 {
-    count_ack(&mut tenure.progress, from)?;
-    if !is_carried(place, tenure) {
+    if !is_carried_by(place, tenure, from) {
+        count_ack(&mut tenure.progress, from)?;
         return Ok(quiet(alloc));
     }
     let committed = own.copy(alloc)?;
@@ -195,7 +199,34 @@ fn issued_in(progress: &Progress) -> Option<&IssuedUpdate>
 }
 
 /// Peer acknowledged, while the primary is active: the issued update is acknowledged, or sent to a peer that has just become
-/// current.
+/// current. That this one is current is still to be put. Where memory runs out, the tenure is as it was.
+fn ack_issued(
+    alloc: Global,
+    place: &Place,
+    tenure: &mut Tenure,
+    own: &FileHead,
+    from: NodeId,
+    newly: bool,
+    stamp: Stamp,
+) -> Result<Turned, OutOfMemory>
+    requires { IsTrue (is_active_in tenure.old.progress) }
+    ensures value { IfOk result (λ turned.
+        (learnt : ℕ) (records : List Record) (held : List ObjectVersion) →
+        goes_on learnt (current_after tenure.new from newly) turned ≡
+        rows.hears_ack (ground place.now records own.now held) learnt tenure.old tenure.old.progress
+        from newly stamp) }
+    ensures same { OnErr result (tenure.new ≡ tenure.old) }
+{
+    let Some(issued) = issued_in(&tenure.progress) else {
+        return Ok(quiet(alloc));
+    };
+    if is_below(stamp, issued.update.stamp) {
+        return send_to_new_peer(alloc, place, from, newly, &issued.update);
+    }
+    acked_by(alloc, place, tenure, own, from)
+}
+
+/// Peer acknowledged, while the primary is active. Where memory runs out, the tenure is as it was.
 fn ack_active(
     alloc: Global,
     place: &Place,
@@ -206,23 +237,19 @@ fn ack_active(
     stamp: Stamp,
 ) -> Result<Turned, OutOfMemory>
     requires { IsTrue (is_active_in tenure.old.progress) }
-    ensures { IfOk result (λ turned.
+    ensures value { IfOk result (λ turned.
         (learnt : ℕ) (records : List Record) (held : List ObjectVersion) →
         goes_on learnt tenure.new turned ≡
         rows.hears_ack (ground place.now records own.now held) learnt tenure.old tenure.old.progress
         from newly stamp) }
+    ensures same { OnErr result (tenure.new ≡ tenure.old) }
 {
+    let turned = ack_issued(alloc, place, tenure, own, from, newly, stamp)?;
     make_current(&mut tenure.peers, from, newly);
-    let Some(issued) = issued_in(&tenure.progress) else {
-        return Ok(quiet(alloc));
-    };
-    if is_below(stamp, issued.update.stamp) {
-        return send_to_new_peer(alloc, place, from, newly, &issued.update);
-    }
-    acked_by(alloc, place, tenure, own, from)
+    Ok(turned)
 }
 
-/// Peer acknowledged, while the head is installed.
+/// Peer acknowledged, while the head is installed. Where memory runs out, the tenure is as it was.
 fn ack_installing(
     alloc: Global,
     place: &Place,
@@ -232,20 +259,22 @@ fn ack_installing(
     newly: bool,
 ) -> Result<Turned, OutOfMemory>
     requires { IsTrue (is_installing tenure.old.progress) }
-    ensures { IfOk result (λ turned.
+    ensures value { IfOk result (λ turned.
         (learnt : ℕ) (records : List Record) (held : List ObjectVersion) (stamp : Stamp) →
         goes_on learnt tenure.new turned ≡
         rows.hears_ack (ground place.now records own.now held) learnt tenure.old tenure.old.progress
         from newly stamp) }
+    ensures same { OnErr result (tenure.new ≡ tenure.old) }
 {
     if !newly {
         return Ok(quiet(alloc));
     }
+    let turned = acked_by(alloc, place, tenure, own, from)?;
     set_peer(&mut tenure.peers, from, PeerState::Current);
-    acked_by(alloc, place, tenure, own, from)
+    Ok(turned)
 }
 
-/// Peer acknowledged. `newly` says whether that makes the peer current.
+/// Peer acknowledged. `newly` says whether that makes the peer current. Where memory runs out, the tenure is as it was.
 pub fn hears_ack(
     alloc: Global,
     place: &Place,
@@ -255,11 +284,12 @@ pub fn hears_ack(
     newly: bool,
     stamp: Stamp,
 ) -> Result<Turned, OutOfMemory>
-    ensures { IfOk result (λ turned.
+    ensures value { IfOk result (λ turned.
         (learnt : ℕ) (records : List Record) (held : List ObjectVersion) →
         goes_on learnt tenure.new turned ≡
         rows.hears_ack (ground place.now records own.now held) learnt tenure.old tenure.old.progress
         from newly stamp) }
+    ensures same { OnErr result (tenure.new ≡ tenure.old) }
 {
     match &tenure.progress {
         Progress::Installing { .. } => { ack_installing(alloc, place, tenure, own, from, newly) }

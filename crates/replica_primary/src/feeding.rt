@@ -1,4 +1,4 @@
-ghost use Rattle.std.specs.Prelude.{◌≡◌, ℕ, List, None, Some, IfOk, IfSome, IsTrue, OnOk, is_some, option_map, slice_get, take};
+ghost use Rattle.std.specs.Prelude.{◌≡◌, ℕ, List, None, Some, IfOk, IfSome, IsTrue, OnOk, is_some, option_map, slice_get};
 ghost use Rattle.xt_messages.specs.declared.file.FileHead.{FileHead};
 ghost use Rattle.xt_protocol.specs.declared.states.Peer.{Peer};
 ghost use Rattle.xt_messages.specs.declared.file.ObjectVersion.{ObjectVersion};
@@ -11,13 +11,13 @@ ghost use Rattle.xt_protocol.specs.Turns.{sends};
 ghost use Rattle.object_versions.specs.KeptBodies.{fault_of, ReadsOnly};
 ghost use Rattle.peer_searches.specs.Sound.{AreSound, known_in, known_of};
 ghost use Rattle.replica_primary.specs.Written.{ground};
-ghost use Rattle.replica_primary.specs.Moves.{body_seen, feeds_any, misses_in, stages_in};
+ghost use Rattle.replica_primary.specs.Moves.{body_seen, feeds_any, misses_in};
 ghost use Rattle.replica_primary.specs.Feeding.{IsOfOwn, head_of, is_at_head, of_own};
 
 use crate::moving::FetchedBody;
 use crate::peers::{peer_in, set_peer, swap_state};
 use crate::sending::{last_sent, send_any};
-use object_versions::{Bodies, StepErr, hold, is_epoch, is_stamp, let_go, seen};
+use object_versions::{Bodies, StepErr, is_epoch, is_stamp, let_go, seen};
 use peer_searches::{Search, Searches, first_unknown};
 use std::alloc::Global;
 use xt_base::{Copies, Epoch, FileId, NodeId, Octets, OutOfMemory, Seq, Stamp};
@@ -66,7 +66,7 @@ impl<'a> Target<'a> {
 
     /// How many of the versions that a search has passed are the own head's, of which all searches are; none where peers are brought to
     /// another one.
-    fn of_own(&self, passed: usize) -> usize
+    pub fn of_own(&self, passed: usize) -> usize
         ensures { result ≡ of_own self.now passed }
     {
         match self {
@@ -91,8 +91,37 @@ impl<'a> Target<'a> {
     }
 }
 
+/// The next state of a peer of which these versions are known, on its way to this head: it is sent the body of the version at `found`,
+/// and where none stands there, the head.
+pub fn next_state<B: Bodies>(
+    bodies: &mut B,
+    alloc: Global,
+    file: &FileId,
+    fetched: &Option<FetchedBody>,
+    target: &Target<'_>,
+    known: HeldSet,
+    found: usize,
+) -> Result<PeerState, StepErr>
+    ensures value { IfOk result (λ state. (records : List Record) → B.agrees bodies.new records →
+        state ≡ rows.fed_next (body_seen records file.now fetched.now) (head_of target.now) known
+        (slice_get (head_of target.now).versions found)) }
+    ensures reads { ReadsOnly B.agrees B.fault_count bodies.old bodies.new (fault_of result) }
+{
+    match target.versions().get(found).copied() {
+        Some(ObjectVersion { object, version }) => Ok(PeerState::Feeding {
+            known,
+            object,
+            version,
+            body: body_seen(bodies, alloc, file, fetched, object, &version)?,
+        }),
+        None => Ok(PeerState::Heading {
+            known,
+            head: target.copy(alloc)?,
+        }),
+    }
+}
+
 /// Fed: a peer of which these versions are known, on its way to this head. At `found` stands the first of its versions that isn't.
-#[tactic(auto, unfolding(xt_protocol::specs::Primaries::fed))]
 pub fn fed<B: Bodies>(
     bodies: &mut B,
     alloc: Global,
@@ -108,18 +137,7 @@ pub fn fed<B: Bodies>(
         state ≡ rows.fed (body_seen records file.now fetched.now) (head_of target.now) known) }
     ensures reads { ReadsOnly B.agrees B.fault_count bodies.old bodies.new (fault_of result) }
 {
-    match target.versions().get(found).copied() {
-        Some(ObjectVersion { object, version }) => Ok(PeerState::Feeding {
-            known,
-            object,
-            version,
-            body: body_seen(bodies, alloc, file, fetched, object, &version)?,
-        }),
-        None => Ok(PeerState::Heading {
-            known,
-            head: target.copy(alloc)?,
-        }),
-    }
+    next_state(bodies, alloc, file, fetched, target, known, found)
 }
 
 /// The head to which peers are brought: the own one once it is of the epoch, and before that the chosen one under the epoch.
@@ -137,7 +155,7 @@ pub fn target_of<'a>(own: &'a FileHead, epoch: Epoch, chosen: &'a FileHead) -> T
 }
 
 /// The head to which peers are brought, if there is one so far.
-fn target_in<'a>(own: &'a FileHead, epoch: Epoch, progress: &'a Progress) -> Option<Target<'a>>
+pub fn target_in<'a>(own: &'a FileHead, epoch: Epoch, progress: &'a Progress) -> Option<Target<'a>>
     ensures head { option_map head_of result ≡ target_in own.now epoch progress.now }
     ensures own { IfSome result (IsOfOwn own.now) }
 {
@@ -149,7 +167,7 @@ fn target_in<'a>(own: &'a FileHead, epoch: Epoch, progress: &'a Progress) -> Opt
 }
 
 /// What leads a peer to this state: a body, a head, or nothing.
-fn sent_to(
+pub fn sent_to(
     alloc: Global,
     place: &Place,
     epoch: Epoch,
@@ -183,8 +201,7 @@ fn send_to_peer(
     sent
 }
 
-/// The next state of a peer of which these versions are known, the first `passed` of the target's among them. The search for what it
-/// lacks comes as far as that.
+/// The next state of a peer of which these versions are known. The search for what it lacks begins, and comes as far as that.
 fn fed_on<B: Bodies>(
     bodies: &mut B,
     alloc: Global,
@@ -193,9 +210,7 @@ fn fed_on<B: Bodies>(
     target: &Target<'_>,
     node: NodeId,
     known: HeldSet,
-    passed: usize,
 ) -> Result<PeerState, StepErr>
-    requires { first_missing known (take passed (head_of target.now).versions) ≡ None }
     ensures value { IfOk result (λ state. (records : List Record) → B.agrees bodies.new records →
         state ≡ rows.fed (body_seen records file.now None) (head_of target.now) known) }
     ensures sound { IfOk result (λ state. (own : FileHead) (peers : List Peer) →
@@ -203,7 +218,7 @@ fn fed_on<B: Bodies>(
         AreSound own.versions (rows.with_peer peers node state) searches.new) }
     ensures reads { ReadsOnly B.agrees B.fault_count bodies.old bodies.new (fault_of result) }
 {
-    let found = first_unknown(&known, target.versions(), passed);
+    let found = first_unknown(&known, target.versions(), 0);
     searches.put(Search {
         node,
         passed: target.of_own(found),
@@ -235,31 +250,12 @@ pub fn feeds_on<B: Bodies>(
     let Some(target) = target_in(own, tenure.epoch, &tenure.progress) else {
         return Ok(quiet(alloc));
     };
-    let state = fed_on(
-        bodies,
-        alloc,
-        &place.file,
-        searches,
-        &target,
-        from,
-        known,
-        0,
-    )?;
+    let state = fed_on(bodies, alloc, &place.file, searches, &target, from, known)?;
     Ok(send_to_peer(alloc, place, tenure, from, state)?)
 }
 
-/// Whether a peer was sent a body or a head.
-fn is_fed(peers: &[Peer], node: NodeId) -> bool
-    ensures { result ≡ is_some (known_in (rows.peer_in peers.now node)) }
-{
-    match peer_in(peers, node) {
-        Some(PeerState::Feeding { .. } | PeerState::Heading { .. }) => true,
-        _ => false,
-    }
-}
-
 /// What is known of a peer that was sent a body or a head.
-fn known_of(state: PeerState) -> Option<HeldSet>
+pub fn known_of(state: PeerState) -> Option<HeldSet>
     ensures { result ≡ known_of state }
 {
     match state {
@@ -291,48 +287,6 @@ fn take_known(peers: &mut Peers, node: NodeId) -> HeldSet
         unreachable!()
     };
     known
-}
-
-/// Body staged: it is known of the peer, which is fed on. The search for what it lacks goes on where it ended.
-pub fn body_staged<B: Bodies>(
-    bodies: &mut B,
-    alloc: Global,
-    place: &Place,
-    tenure: &mut Tenure,
-    searches: &mut Searches,
-    own: &FileHead,
-    from: NodeId,
-    version: ObjectVersion,
-) -> Result<Turned, StepErr>
-    requires { AreSound own.now.versions tenure.old.peers searches.old }
-    ensures value { IfOk result (λ turned. (records : List Record) → B.agrees bodies.new records →
-        (learnt : ℕ) (held : List ObjectVersion) →
-        goes_on learnt tenure.new turned ≡
-        stages_in (ground place.now records own.now held) learnt tenure.old from
-        (rows.peer_in tenure.old.peers from) version) }
-    ensures sound { OnOk result (AreSound own.now.versions tenure.new.peers searches.new) }
-    ensures reads { ReadsOnly B.agrees B.fault_count bodies.old bodies.new (fault_of result) }
-{
-    let Some(target) = target_in(own, tenure.epoch, &tenure.progress) else {
-        return Ok(quiet(alloc));
-    };
-    if !is_fed(tenure.peers.as_slice(), from) {
-        return Ok(quiet(alloc));
-    }
-    let passed = target.of_own(searches.passed(from));
-    let mut known = take_known(&mut tenure.peers, from);
-    hold(&mut known, version)?;
-    let state = fed_on(
-        bodies,
-        alloc,
-        &place.file,
-        searches,
-        &target,
-        from,
-        known,
-        passed,
-    )?;
-    Ok(send_to_peer(alloc, place, tenure, from, state)?)
 }
 
 /// Whether a peer was sent a head last.
@@ -373,15 +327,6 @@ pub fn body_missed<B: Bodies>(
     }
     let mut known = take_known(&mut tenure.peers, from);
     let_go(&mut known, version);
-    let state = fed_on(
-        bodies,
-        alloc,
-        &place.file,
-        searches,
-        &target,
-        from,
-        known,
-        0,
-    )?;
+    let state = fed_on(bodies, alloc, &place.file, searches, &target, from, known)?;
     Ok(send_to_peer(alloc, place, tenure, from, state)?)
 }

@@ -1,4 +1,4 @@
-ghost use Rattle.std.specs.Prelude.{◌≡◌, ◌∷◌, [], ℕ, List, Some, IfOk, IsFalse, OnErr, OnOk};
+ghost use Rattle.std.specs.Prelude.{◌≡◌, ◌∷◌, [], ℕ, List, Some, IfOk, IsFalse, OnErr, OnOk, true};
 ghost use Rattle.xt_messages.specs.declared.file.ObjectVersion.{ObjectVersion};
 ghost use Rattle.xt_messages.specs.declared.file.FileHead.{FileHead};
 ghost use Rattle.xt_messages.specs.declared.message.Payload.TheVariants as payload;
@@ -13,19 +13,19 @@ ghost use Rattle.object_versions.specs.KeptBodies.{fault_of, ReadsOnly};
 ghost use Rattle.object_versions.specs.Rising.{HeadRises};
 ghost use Rattle.osd_decisions.specs.Committed.{CommittedUnder};
 ghost use Rattle.replica_primary.specs.declared.moving.Heard.TheVariants as heard;
-ghost use Rattle.replica_primary.specs.declared.moving.Next.TheVariants as step;
 ghost use Rattle.replica_primary.specs.Shown.{shown_state, shown_tenure};
 ghost use Rattle.replica_primary.specs.Written.{ground};
 ghost use Rattle.peer_searches.specs.Sound.{AreSound};
-ghost use Rattle.replica_primary.specs.Moves.{LeavesSearches, is_apart, led_by, next_of, outpromised, peers_under};
+ghost use Rattle.replica_primary.specs.Moves.{IsHeardOf, is_apart, is_light_led, led_by, next_of, outpromised, peers_under};
 
 use crate::acking::{hears_ack, makes_current};
 use crate::drawing::redrawn;
-use crate::feeding::{body_missed, body_staged, feeds_on};
+use crate::feeding::{body_missed, feeds_on};
 use crate::fetching::{hears_missing, hears_object};
 use crate::gathering::{install_and_keep, take_status};
 use crate::moving::{Heard, Next, put, unmoved};
 use crate::peers::{peer_in, set_peer};
+use crate::staging::body_staged;
 use object_versions::{Bodies, StepErr, is_earlier, is_epoch};
 use peer_searches::Searches;
 use std::alloc::Global;
@@ -124,10 +124,10 @@ fn peer_behind(
 
 /// Nothing comes of a message, and the tenure goes on.
 fn unheard(alloc: Global) -> Heard
-    ensures { result ≡ heard.GoesOn (step.Gives quiet) }
+    ensures { result ≡ heard.Counts quiet }
 {
-    Heard::GoesOn {
-        next: unmoved(alloc),
+    Heard::Counts {
+        turned: quiet(alloc),
     }
 }
 
@@ -221,7 +221,8 @@ fn hears_peer(
         heard ≡
         rows.hears_peer (ground place.now records own.now held.now) learnt
         (shown_tenure tenure.old) from state payload.now) }
-    ensures searches { IfOk result (LeavesSearches tenure.old.peers tenure.new.peers) }
+    ensures heard { IfOk result (IsHeardOf payload.now tenure.old tenure.new) }
+    ensures same { OnErr result (is_light_led payload.now ≡ true → tenure.new ≡ tenure.old) }
 {
     match payload {
         Payload::Staged {
@@ -271,7 +272,8 @@ fn hears_in(
         heard ≡
         rows.hears_in (ground place.now records own.now held.now) learnt
         (Some (shown_tenure tenure.old)) from payload.now) }
-    ensures searches { IfOk result (LeavesSearches tenure.old.peers tenure.new.peers) }
+    ensures heard { IfOk result (IsHeardOf payload.now tenure.old tenure.new) }
+    ensures same { OnErr result (is_light_led payload.now ≡ true → tenure.new ≡ tenure.old) }
 {
     let Some(epoch) = message_epoch(payload) else {
         return Ok(unheard(alloc));
@@ -343,7 +345,8 @@ fn redraws(
     Ok(drawn.turned)
 }
 
-/// A message to a primary. Where it can't be taken, what was learnt goes on, and the tenure isn't to be used again.
+/// A message to a primary. Where it can't be taken, an acknowledgement and the report of a staged body leave the primary as it was; of
+/// any other one what was learnt goes on, and the tenure isn't to be used again.
 #[tactic(auto, unfolding(xt_protocol::specs::PrimaryRows::hears))]
 pub fn hears<B: Bodies>(
     bodies: &mut B,
@@ -366,6 +369,9 @@ pub fn hears<B: Bodies>(
     ensures sound { OnOk result (AreSound own.now.versions (peers_under primary.new.tenure)
         searches.new) }
     ensures kept { OnErr result (primary.new.learnt ≡ primary.old.learnt) }
+    ensures same { OnErr result (is_light_led payload.now ≡ true → primary.new ≡ primary.old) }
+    ensures sound_still { OnErr result (is_light_led payload.now ≡ true →
+        AreSound own.now.versions (peers_under primary.new.tenure) searches.new) }
     ensures reads { ReadsOnly B.agrees B.fault_count bodies.old bodies.new (fault_of result) }
 {
     let Some(tenure) = &mut primary.tenure else {

@@ -2,8 +2,9 @@
 //! peers, serves reads, issues updates and counts who has acknowledged them; a wake sends again what wasn't answered.
 //!
 //! Each call computes exactly its row of the definitions in `xt_protocol`. Contracts see where the primary stands, and its state in
-//! the rows' own terms. Where memory runs out or a fault occurs while a message is taken, the primary is idle; where any other
-//! call fails, it is as it was. The head that a commit leaves is a copy of the own one.
+//! the rows' own terms. A call that fails, since memory ran out or a body can't be read, leaves the primary as it was; but one that takes
+//! a message other than an acknowledgement or the report of a staged body leaves it idle. The head that a commit leaves is a copy of the
+//! own one.
 #![tactic(auto)]
 
 mod acking;
@@ -19,6 +20,7 @@ mod peers;
 mod primary;
 mod sending;
 mod serving;
+mod staging;
 mod waking;
 
 pub use primary::{Phase, Primary};

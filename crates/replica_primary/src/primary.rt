@@ -1,4 +1,4 @@
-ghost use Rattle.std.specs.Prelude.{◌≡◌, List, None, Some, IfOk, IfNone, OnErr};
+ghost use Rattle.std.specs.Prelude.{◌≡◌, List, None, Some, IfOk, IfNone, OnErr, true, false};
 ghost use Rattle.xt_protocol.specs.Primaries as rows;
 ghost use Rattle.xt_protocol.specs.PrimaryRows.{draw_epoch, hears};
 ghost use Rattle.xt_protocol.specs.Serving.{reads, wakes, writes};
@@ -9,7 +9,7 @@ ghost use Rattle.xt_messages.specs.Limits.{FitsOp, FitsStripe};
 ghost use Rattle.object_versions.specs.KeptBodies.{fault_of, ReadsOnly};
 ghost use Rattle.object_versions.specs.Rising.{HeadRises};
 ghost use Rattle.peer_searches.specs.Sound.{AreSound};
-ghost use Rattle.replica_primary.specs.Moves.{peers_under};
+ghost use Rattle.replica_primary.specs.Moves.{is_light_led, peers_under};
 ghost use Rattle.replica_primary.specs.Written.{ground};
 ghost use Rattle.replica_primary.specs.Phases.{phase_in, phase_of};
 ghost use Rattle.replica_primary.specs.Rests.{chosen_by, rested_on, rests_on};
@@ -183,7 +183,7 @@ impl Primary {
 
     /// A message to the primary, in this turn: `own` and `held` are the head and the held versions of its own replica. `searches` are
     /// those for what its peers lack of that head; new ones serve for any. Where memory is out or a body can't be read, the primary
-    /// is idle.
+    /// is as it was if the message is an acknowledgement or reports a staged body, and idle if it is any other one.
     pub fn take<B: Bodies>(
         &mut self,
         turn: &Turn<'_>,
@@ -206,8 +206,9 @@ impl Primary {
         ensures led { IfOk result (λ led. (records : List Record) → B.agrees bodies.new records →
             led ≡ (hears (ground self.old.place records own.now held.now) self.old.state from
             payload.now).turned) }
-        ensures idle { OnErr result (self.new ≡
-            record self.old { state = rows.idle self.old.state }) }
+        ensures idle { OnErr result (is_light_led payload.now ≡ false →
+            self.new ≡ record self.old { state = rows.idle self.old.state }) }
+        ensures same { OnErr result (is_light_led payload.now ≡ true → self.new ≡ self.old) }
         ensures sound { AreSound own.now.versions (peers_under self.new.state.tenure)
             searches.new }
         ensures reads { ReadsOnly B.agrees B.fault_count bodies.old bodies.new (fault_of result) }
@@ -220,6 +221,9 @@ impl Primary {
         ) {
             Ok(turned) => Ok(turned),
             Err(error) => {
+                if is_light_led(payload) {
+                    return Err(error);
+                }
                 put(&mut self.state.tenure, None);
                 Err(error)
             }
@@ -262,6 +266,16 @@ impl Primary {
             Some(tenure) => rested_on(self.place.node, tenure.peers.as_slice(), &tenure.progress),
             None => None,
         }
+    }
+}
+
+/// Whether a primary takes this message in place, so that it is as it was after an error.
+fn is_light_led(payload: &Payload) -> bool
+    ensures { result ≡ is_light_led payload.now }
+{
+    match payload {
+        Payload::Ack { .. } | Payload::Staged { .. } => true,
+        _ => false,
     }
 }
 

@@ -57,16 +57,16 @@ returns-in_ok-turned-in-Ack-clause-row c =
     let from = c.args.from in
     let told = ap (λ (peers : List Peer). peer_in peers from) c.as_slice.ensures ∙ is in
     let stands = ground c.args.place.now records c.args.own.now c.args.held.now in
-    ap shown_led (c.in_ok-turned-in-Ack.ensures learnt records c.args.held.now)
+    ap shown_led (c.in_ok-turned-in-Ack.ensures.value learnt records c.args.held.now)
     ∙ acked_shown stands learnt t.epoch from c.in-Ack.stamp t.peers c.args.tenure.now.progress c.newly_current-newly.result
     ∙ ap (λ (newly : Bool). hears_ack stands learnt t t.progress from newly c.in-Ack.stamp) (c.newly_current-newly.ensures state told)
     ∙ ap (λ (content : Payload). hears_peer stands learnt t from state content) (sym c.in-Ack.is)
 
-pub returns-in_ok-turned-in-Ack-clause-searches : goal.returns-in_ok-turned-in-Ack-clause-searches
-returns-in_ok-turned-in-Ack-clause-searches c =
+pub returns-in_ok-turned-in-Ack-clause-heard : goal.returns-in_ok-turned-in-Ack-clause-heard
+returns-in_ok-turned-in-Ack-clause-heard c =
     λ versions searches sound.
     let t = c.args.tenure.now in
     let learnt = c.args.learnt in
     let stands = ground c.args.place.now [] c.args.own.now c.args.held.now in
     acked_sound versions searches stands learnt t sound t.progress c.args.from c.newly_current-newly.result c.in-Ack.stamp (goes_on learnt c.hears_ack.new.tenure c.in_ok-turned-in-Ack.turned)
-    (c.in_ok-turned-in-Ack.ensures learnt [] c.args.held.now)
+    (c.in_ok-turned-in-Ack.ensures.value learnt [] c.args.held.now)

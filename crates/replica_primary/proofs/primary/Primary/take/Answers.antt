@@ -6,8 +6,8 @@ use Rattle.replica_primary.specs.Moves.{peers_under}
 use Rattle.replica_primary.specs.Shown.{shown_under}
 use Rattle.replica_primary.proofs.primary.Primary.take.Goals as goal
 
-pub returns-in-Err-clause-sound : goal.returns-in-Err-clause-sound
-returns-in-Err-clause-sound g c =
+pub returns-else-is_light_led-clause-sound : goal.returns-else-is_light_led-clause-sound
+returns-else-is_light_led-clause-sound g c =
     let versions = c.args.own.now.versions in
     let P : Option Tenure → Type 0 = λ tenure. AreSound versions (peers_under (shown_under tenure)) c.hears.new.searches in
     subst P (sym c.put.ensures) (none_fed versions c.hears.new.searches)
