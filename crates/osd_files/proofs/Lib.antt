@@ -6,7 +6,7 @@ pub mod Wakes
 pub mod Served
 pub mod LetIn
 pub mod Over
-pub mod Plain
+pub mod Kept
 pub mod Counted
 pub mod Acked
 pub mod Noted

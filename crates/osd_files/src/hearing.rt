@@ -1,8 +1,7 @@
-ghost use Rattle.std.specs.Prelude.{◌≡◌, [], ℕ, List, true, IfOk, OnErr};
+ghost use Rattle.std.specs.Prelude.{◌≡◌, [], ℕ, List, true, IfOk, IfSome};
 ghost use Rattle.xt_messages.specs.Limits.{FitsPayload};
 ghost use Rattle.xt_messages.specs.declared.record.Record.{Record};
 ghost use Rattle.xt_protocol.specs.Primaries.{if_any};
-ghost use Rattle.xt_protocol.specs.ReplicaRows.{kept_after};
 ghost use Rattle.xt_protocol.specs.FileSteps as rows;
 ghost use Rattle.osd_files.specs.Views.{shown};
 ghost use Rattle.osd_files.specs.Asking.{fetch_row};
@@ -10,15 +9,12 @@ ghost use Rattle.osd_files.specs.Kinds.{acted_on, is_for_replica};
 ghost use Rattle.osd_files.specs.Rows.{IsRow, IsRowBy};
 ghost use Rattle.xt_protocol.specs.SeenBodies.{body_by};
 ghost use Rattle.object_versions.specs.KeptBodies.{fault_of, ReadsOnly};
-ghost use Rattle.peer_searches.specs.Sound.{AreSound};
-ghost use Rattle.xt_protocol.specs.declared.states.Peer.{Peer};
+ghost use Rattle.replica_state.specs.Kept.{IsNotable};
 
 use crate::joining::both;
+use crate::leases::noted;
 use crate::parts::Parts;
-use crate::seeking::begin_anew;
-use crate::staging::note_staged;
 use object_versions::{Bodies, StepErr};
-use peer_searches::Searches;
 use replica_primary::send_any;
 use replica_state::{Replica, fetched_from};
 use std::alloc::Global;
@@ -41,7 +37,7 @@ fn answered(
 }
 
 /// A row of the replica: its record, and its answer to whoever asked.
-pub fn replica_acts(
+fn replica_acts(
     alloc: Global,
     node: NodeId,
     from: NodeId,
@@ -59,13 +55,28 @@ pub fn replica_acts(
     })
 }
 
-/// What the replica makes of a message; nothing of one that isn't to it.
-fn acts(replica: &mut Replica, content: &Payload) -> Result<Acted, OutOfMemory>
+/// A row that was decided: the replica takes its record, and its answer goes to whoever asked.
+pub fn replica_takes(file: &mut Parts, from: NodeId, acted: Acted) -> Result<Turned, OutOfMemory>
+    requires { IfSome acted.rec (IsNotable file.old.replica) }
+    ensures { IfOk result (λ turned. (now : ℕ) →
+        IsRow (λ site s. rows.replica_acts site s from acted) now (shown file.old) (shown file.new)
+        turned) }
+{
+    let turned = replica_acts(file.alloc, file.awake.node(), from, acted)?;
+    noted(
+        &mut file.replica,
+        &mut file.staged,
+        &mut file.searches,
+        turned,
+    )
+}
+
+/// What the replica makes of a message; nothing of one that isn't to it. It stays as it is.
+fn acts(replica: &Replica, content: &Payload) -> Result<Acted, OutOfMemory>
     requires { FitsPayload content.now }
     ensures row { IfOk result (λ acted. acted ≡
-        acted_on replica.old.file replica.old.head replica.old.held content.now) }
-    ensures kept { IfOk result (λ acted. replica.new ≡ kept_after replica.old acted.rec) }
-    ensures same { OnErr result (replica.new ≡ replica.old) }
+        acted_on replica.now.file replica.now.head replica.now.held content.now) }
+    ensures notable { IfOk result (λ acted. IfSome acted.rec (IsNotable replica.now)) }
 {
     match content {
         Payload::Gather { epoch, .. } => replica.on_gather(epoch),
@@ -85,26 +96,6 @@ fn acts(replica: &mut Replica, content: &Payload) -> Result<Acted, OutOfMemory>
     }
 }
 
-/// The same. Where it made a record, the searches for what peers lack begin again.
-fn acts_anew(
-    replica: &mut Replica,
-    searches: &mut Searches,
-    content: &Payload,
-) -> Result<Acted, OutOfMemory>
-    requires { FitsPayload content.now }
-    ensures row { IfOk result (λ acted. acted ≡
-        acted_on replica.old.file replica.old.head replica.old.held content.now) }
-    ensures kept { IfOk result (λ acted. replica.new ≡ kept_after replica.old acted.rec) }
-    ensures same { OnErr result (replica.new ≡ replica.old) }
-    ensures sound { (peers : List Peer) →
-        AreSound replica.old.head.versions peers searches.old →
-        AreSound replica.new.head.versions peers searches.new }
-{
-    let acted = acts(replica, content)?;
-    begin_anew(searches, acted.rec.is_some());
-    Ok(acted)
-}
-
 /// A message to the replica comes: Gather, Stage, Head or Update.
 pub fn replica_comes(
     file: &mut Parts,
@@ -116,10 +107,8 @@ pub fn replica_comes(
         IsRow (λ site s. rows.message_comes site s from content.now) now (shown file.old)
         (shown file.new) turned) }
 {
-    let (alloc, node) = (file.alloc, file.awake.node());
-    let acted = acts_anew(&mut file.replica, &mut file.searches, content)?;
-    let turned = replica_acts(alloc, node, from, acted)?;
-    note_staged(&mut file.staged, turned)
+    let acted = acts(&file.replica, content)?;
+    replica_takes(file, from, acted)
 }
 
 /// Fetch comes: the body is sent where it is held, whatever is promised. The file stays as it is.

@@ -122,7 +122,8 @@ fn answer_waiting(file: &mut Parts, reply: &Reply) -> Result<Turned, OutOfMemory
         turned) }
 {
     let (alloc, node, id) = (file.alloc, file.awake.node(), file.replica.file());
-    let outs = file.asks.tell_waiting(alloc, node, &id, reply)?;
+    let outs = file.asks.told_waiting(alloc, node, &id, reply)?;
+    file.asks.drop_waiting();
     Ok(sends(alloc, outs))
 }
 

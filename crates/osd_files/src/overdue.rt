@@ -18,7 +18,8 @@ fn no_lease_for_all(file: &mut Parts) -> Result<Turned, OutOfMemory>
     let reply = Reply::NoLease { end: file.last_end };
     let node = file.awake.node();
     let id = file.replica.file();
-    let outs = file.asks.tell_all(file.alloc, node, &id, &reply)?;
+    let outs = file.asks.told_all(file.alloc, node, &id, &reply)?;
+    file.asks.drop_all();
     Ok(sends(file.alloc, outs))
 }
 
@@ -38,7 +39,8 @@ fn deadlines_come(file: &mut Parts, now: u64, reply: &Reply) -> Result<Turned, O
         turned) }
 {
     let (alloc, node, id) = (file.alloc, file.awake.node(), file.replica.file());
-    let outs = file.asks.tell_due(alloc, node, &id, now, reply)?;
+    let outs = file.asks.told_due(alloc, node, &id, now, reply)?;
+    file.asks.drop_due(now);
     Ok(sends(alloc, outs))
 }
 

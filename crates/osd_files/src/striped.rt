@@ -12,8 +12,7 @@ ghost use Rattle.replica_state.specs.Kept.{IsNotable};
 ghost use Rattle.osd_files.specs.Rows.{IsStep};
 ghost use Rattle.osd_files.specs.Views.{shown, site_at};
 
-use crate::hearing::replica_acts;
-use crate::leases::noted;
+use crate::hearing::replica_takes;
 use crate::parts::Parts;
 use object_versions::{Bodies, StepErr};
 use osd_decisions::striped_refusal_of;
@@ -115,12 +114,5 @@ pub fn handle_striped<B: Bodies>(
     ensures reads { ReadsOnly B.agrees B.fault_count bodies.old bodies.new (fault_of result) }
 {
     let acted = member_acts(file, bodies, now, sealed, id, capability, op)?;
-    let (alloc, node) = (file.alloc, file.awake.node());
-    let turned = replica_acts(alloc, node, id.client, acted)?;
-    Ok(noted(
-        &mut file.replica,
-        &mut file.staged,
-        &mut file.searches,
-        turned,
-    )?)
+    Ok(replica_takes(file, id.client, acted)?)
 }
