@@ -8,14 +8,12 @@ use Rattle.xt_base.specs.declared.ids.Stamp.{Stamp}
 use Rattle.xt_messages.specs.declared.file.Capability.{Capability}
 use Rattle.xt_protocol.specs.declared.turned.Turned.{Turned}
 use Rattle.xt_protocol.specs.FileStates.{FileState, Site, FileStep}
-use Rattle.xt_protocol.specs.Primaries.{idle}
 use Rattle.xt_protocol.specs.SeenBodies.{body_by}
 use Rattle.xt_protocol.specs.Turns.{joined}
 use Rattle.xt_base.specs.declared.ids.NodeId.{NodeId}
 use Rattle.xt_messages.specs.declared.message.Payload.{Payload}
 use Rattle.xt_protocol.specs.LeaseRows.{Awake, LeaseState, LeaseNews, on_answer}
 use Rattle.xt_protocol.specs.FileLeases.{answer_comes, end_after_answer, lease_news}
-use Rattle.xt_protocol.specs.Overdue.{no_lease_for_all, lease_lapses}
 use Rattle.object_versions.specs.KeptBodies.{IsTold, ReadsOnly}
 use Rattle.object_versions.specs.declared.errors.StepErr.{StepErr}
 use Rattle.osd_files.specs.Views.{FileView, site_at}
@@ -28,15 +26,6 @@ if_ok P Q (Err e) all h = h
 pub if_both : {A E : Type 0} (P : A → Type 0) (S : Type 0) (Q : A → Type 0) (r : Result A E) → ((a : A) → P a → S → Q a) → IfOk r P → OnOk r S → IfOk r Q
 if_both P S Q (Ok a) all h s = all a h s
 if_both P S Q (Err e) all h s = h
-
--- a file whose primary has become idle
-pub lapses : (now : ℕ) (old mid new : FileView) (turned : Turned) → mid ≡ record { awake = old.awake; state = record old.state { primary = idle old.state.primary } }
-    → IsRow no_lease_for_all now mid new turned → IsRow lease_lapses now old new turned
-lapses now old mid new turned is row =
-    let after : FileView = record { awake = old.awake; state = record old.state { primary = idle old.state.primary } } in
-    let P : FileView → Type 0 = λ m. IsRow no_lease_for_all now m new turned in
-    let h : IsRow no_lease_for_all now after new turned = subst P is row in
-    λ sealed body. record { here = (h sealed body).here; step = (h sealed body).step }
 
 -- a row on a file is another row on the file as it was before
 pub row_from : (first second : Site → FileState → FileStep) (now : ℕ) (awake : Awake) (old mid : FileState) (new : FileView) (turned : Turned)
@@ -102,10 +91,6 @@ joins_next row whole now awake old mid new first rest r same step made =
     }
     in
     rest_ok P Q first rest r all made step
-
--- what holds of what a part gave
-pub given_ok : {A E : Type 0} (P : A → Type 0) (r : Result A E) (a : A) → r ≡ Ok a → IfOk r P → P a
-given_ok {A = A} {E = E} P r a is of = subst (λ (x : Result A E). IfOk x P) is of
 
 if_none : (o : Option StepErr) (a b c : ℕ) → IfNone o (a ≡ b) → b ≡ c → IfNone o (a ≡ c)
 if_none None a b c first next = first ∙ next

@@ -30,9 +30,8 @@ use Rattle.osd_invariants.specs.Sound.{AreOne, IsSound, LedUnder, ListUnder, Pee
 use Rattle.osd_invariants.specs.OpenAsks.{AskIs, AsksAre, IsWithinLimits}
 use Rattle.osd_invariants.proofs.OpenAsks.{expired_are, none_are, step_are, wake_are}
 use Rattle.osd_invariants.proofs.SoundSteps.{expired_so, step_so, wake_so}
-use Rattle.osd_files.specs.declared.waking.Woken.{Woken}
 use Rattle.osd_files.specs.Kinds.{acted_on, is_for_lease, is_for_replica}
-use Rattle.osd_files.specs.Rows.{IsRow, IsStep}
+use Rattle.osd_files.specs.Rows.{Becomes, IsRow, IsStep}
 use Rattle.osd_files.specs.Views.{FileView, site_at}
 use Rattle.osd_files.specs.Whole.{IsRowOn, IsSealedBy, IsWhole, IsWoken}
 use Rattle.osd_files.proofs.Rows.{behind_it}
@@ -57,11 +56,17 @@ whole_as : (s : FileState) (v : FileView) → s ≡ v.state → IsSound s → As
 whole_as s v same sound asks =
     record { sound = subst IsSound same sound; asks = subst (λ (x : FileState). AsksAre IsWithinLimits x.asks) same asks }
 
-pub whole_expired : (now : ℕ) (old mid : FileView) (turned : Turned) → IsRow expired now old mid turned → IsWhole old → IsWhole mid
-whole_expired now old mid turned row whole =
+pub whole_ended : (now : ℕ) (old mid : FileView) → Becomes expired now old mid → IsWhole old → IsWhole mid
+whole_ended now old mid row whole =
     let site = site_at old.awake now no_seal no_body in
     let step = expired site old.state in
-    whole_as step.state mid (ap (λ (st : FileStep). st.state) (row no_seal no_body).step) (expired_so site old.state whole.sound) (expired_are IsWithinLimits site old.state whole.asks)
+    whole_as step.state mid (row.state no_seal no_body) (expired_so site old.state whole.sound) (expired_are IsWithinLimits site old.state whole.asks)
+
+pub whole_expired : (now : ℕ) (old mid : FileView) (turned : Turned) → IsRow expired now old mid turned → IsWhole old → IsWhole mid
+whole_expired now old mid turned row whole =
+    whole_ended now old mid
+    (record { here = (row no_seal no_body).here; state = λ sealed body. ap (λ (st : FileStep). st.state) (row sealed body).step })
+    whole
 
 pub whole_stepped : (now : ℕ) (body : FileId → ℕ → Stamp → List ℕ) (sealed : Bool) (from : NodeId) (content : Payload) (old new : FileView) (turned : Turned)
     → IsRowOn (λ site s. step_of_file site s from content) content sealed now body old new turned → FitsPayload content → IsWhole old → IsWhole new
@@ -172,24 +177,22 @@ pub heard_row : (site : Site) (from : NodeId) (content : Payload) (old new : Fil
     → IsStep (λ site s. primary_hears site s s.lease from content) site old new turned → IsStep (λ site s. message_comes site s from content) site old new turned
 heard_row site from content old new turned only row = record { here = row.here; step = heard_alone site old.state from content only ∙ row.step }
 
--- what is overdue, and then the rows of a Wake
-pub woken_row : (now : ℕ) (old mid new : FileView) (woken : Woken) → IsRow expired now old mid woken.overdue → IsRow wake_of_file now mid new woken.again → IsWoken now old new woken
-woken_row now old mid new woken first second =
-    let here = (first no_seal no_body).here in
+-- what was overdue has ended, and then the rows of a Wake
+pub woken_row : (now : ℕ) (old mid new : FileView) → Becomes expired now old mid → Becomes wake_of_file now mid new → IsWoken now old new
+woken_row now old mid new first second =
     record {
-      here = (second no_seal no_body).here ∙ here;
-      overdue = λ sealed body. ap (λ (st : FileStep). st.turned) (first sealed body).step;
-      again = λ sealed body.
-          let rows : Awake → FileState → FileStep = λ a s. wake_of_file (site_at a now sealed body) s in
-          ap (λ (st : FileStep). rows old.awake st.state) (first sealed body).step ∙ ap (λ (a : Awake). rows a mid.state) (sym here) ∙ (second sealed body).step;
+      here = second.here ∙ first.here;
+      state = λ sealed body.
+          let rows : Awake → FileState → FileState = λ a s. (wake_of_file (site_at a now sealed body) s).state in
+          ap (rows old.awake) (first.state sealed body) ∙ ap (λ (a : Awake). rows a mid.state) (sym first.here) ∙ second.state sealed body;
     }
 
-pub whole_woken : (now : ℕ) (old new : FileView) (woken : Woken) → IsWoken now old new woken → IsWhole old → IsWhole new
-whole_woken now old new woken row whole =
+pub whole_woken : (now : ℕ) (old new : FileView) → IsWoken now old new → IsWhole old → IsWhole new
+whole_woken now old new row whole =
     let site = site_at old.awake now no_seal no_body in
     let first = (expired site old.state).state in
     let step = wake_of_file site first in
-    whole_as step.state new (ap (λ (st : FileStep). st.state) (row.again no_seal no_body)) (wake_so site first (expired_so site old.state whole.sound))
+    whole_as step.state new (row.state no_seal no_body) (wake_so site first (expired_so site old.state whole.sound))
     (wake_are IsWithinLimits site first (expired_are IsWithinLimits site old.state whole.asks))
 
 -- a file without a lease, a tenure and asks

@@ -20,3 +20,13 @@ IsRow row now old new turned =
 -- the same, where a body is this
 abbrev pub IsRowBy : (Site → FileState → FileStep) → ℕ → (FileId → ℕ → Stamp → List ℕ) → FileView → FileView → Turned → Type 0
 IsRowBy row now body old new turned = (sealed : Capability → Bool) → IsStep row (site_at old.awake now sealed body) old new turned
+
+-- the row gives this, whatever capabilities are sealed and bodies are kept
+abbrev pub Gives : (Site → FileState → FileStep) → ℕ → FileView → Turned → Type 0
+Gives row now v turned =
+    (sealed : Capability → Bool) (body : FileId → ℕ → Stamp → List ℕ) → (row (site_at v.awake now sealed body) v.state).turned ≡ turned
+
+-- The file is as the row leaves it, whatever capabilities are sealed and bodies are kept.
+pub record Becomes (row : Site → FileState → FileStep) (now : ℕ) (old new : FileView) : Type 0 where
+  pub here : new.awake ≡ old.awake
+  pub state : (sealed : Capability → Bool) (body : FileId → ℕ → Stamp → List ℕ) → (row (site_at old.awake now sealed body) old.state).state ≡ new.state

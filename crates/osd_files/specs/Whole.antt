@@ -39,8 +39,13 @@ IsRowOn row content sealed now body old new turned =
     (test : Capability → Bool) → IsSealedBy test content sealed → IsStep row (site_at old.awake now test body) old new turned
 
 -- What a Wake gives at a file: what is overdue first, and then the rows of a Wake.
-pub record IsWoken (now : ℕ) (old new : FileView) (woken : Woken) : Type 0 where
-  pub here : new.awake ≡ old.awake
-  pub overdue : (sealed : Capability → Bool) (body : FileId → ℕ → Stamp → List ℕ) → (expired (site_at old.awake now sealed body) old.state).turned ≡ woken.overdue
+pub record Wakes (now : ℕ) (v : FileView) (woken : Woken) : Type 0 where
+  pub overdue : (sealed : Capability → Bool) (body : FileId → ℕ → Stamp → List ℕ) → (expired (site_at v.awake now sealed body) v.state).turned ≡ woken.overdue
   pub again : (sealed : Capability → Bool) (body : FileId → ℕ → Stamp → List ℕ)
-      → wake_of_file (site_at old.awake now sealed body) (expired (site_at old.awake now sealed body) old.state).state ≡ record { state = new.state; turned = woken.again }
+      → (wake_of_file (site_at v.awake now sealed body) (expired (site_at v.awake now sealed body) v.state).state).turned ≡ woken.again
+
+-- The file after a Wake.
+pub record IsWoken (now : ℕ) (old new : FileView) : Type 0 where
+  pub here : new.awake ≡ old.awake
+  pub state : (sealed : Capability → Bool) (body : FileId → ℕ → Stamp → List ℕ)
+      → (wake_of_file (site_at old.awake now sealed body) (expired (site_at old.awake now sealed body) old.state).state).state ≡ new.state

@@ -6,13 +6,13 @@ ghost use Rattle.object_versions.specs.KeptBodies.{fault_of, ReadsOnly};
 ghost use Rattle.xt_protocol.specs.FileStates.{file_from};
 ghost use Rattle.xt_protocol.specs.FileSteps as rows;
 ghost use Rattle.xt_protocol.specs.Forgetting.{file_without, needed_of};
-ghost use Rattle.osd_files.specs.Whole.{IsRowOn, IsWoken, RowRises};
+ghost use Rattle.osd_files.specs.Whole.{IsRowOn, IsWoken, RowRises, Wakes};
 
 use crate::keeping::{forget, keep_held};
 use crate::parts::Parts;
 use crate::starting::{file_from, give_up};
 use crate::steps::step_of_file;
-use crate::waking::{Woken, wake_whole};
+use crate::waking::{Woken, end_wake, wake};
 use flease::Awake;
 use object_versions::{Bodies, SoughtBodies, StepErr};
 use std::alloc::Global;
@@ -89,19 +89,21 @@ impl OsdFile {
         }
     }
 
-    /// A Wake at the clock `now`: what is overdue, and then what a wake gives, apart, since an OSD reports the first of all its
-    /// files before the second. After an error, as for `take`.
-    pub fn wake(&mut self, now: u64) -> Result<Woken, OutOfMemory>
+    /// What a Wake at the clock `now` gives: of what is overdue, and then of the rows of a Wake, apart, since an OSD reports the first
+    /// of all its files before the second. The file stays as it is until `end_wake`.
+    pub fn wake(&self, now: u64) -> Result<Woken, OutOfMemory>
         requires { now < 2 ^ 62 }
-        ensures { IfOk result (λ woken. IsWoken now self.old self.new woken) }
+        ensures { IfOk result (λ woken. Wakes now self.now woken) }
     {
-        match wake_whole(&mut self.parts, now) {
-            Ok(woken) => Ok(woken),
-            Err(error) => {
-                give_up(&mut self.parts);
-                Err(error)
-            }
-        }
+        wake(&self.parts, now)
+    }
+
+    /// The file after a Wake at the clock `now`: what was overdue is gone, and a renewal that was due runs. It takes no memory.
+    pub fn end_wake(&mut self, now: u64)
+        requires { now < 2 ^ 62 }
+        ensures { IsWoken now self.old self.new }
+    {
+        end_wake(&mut self.parts, now);
     }
 
     /// Puts the held bodies that the file needs after those that are to be kept already.

@@ -4,14 +4,16 @@ ghost use Rattle.xt_protocol.specs.LeaseRows.{Held, held};
 ghost use Rattle.flease.specs.Moves.{IsSettled};
 ghost use Rattle.osd_invariants.specs.Sound.{IsStored, ListUnder};
 ghost use Rattle.xt_protocol.specs.FileSteps as rows;
+ghost use Rattle.xt_protocol.specs.Overdue.{expired};
 ghost use Rattle.xt_protocol.specs.Turns.{to_each, sends};
 ghost use Rattle.osd_files.specs.Views.{shown};
-ghost use Rattle.osd_files.specs.Rows.{IsRow};
-ghost use Rattle.osd_files.specs.Whole.{IsWhole, IsWoken};
+ghost use Rattle.osd_files.specs.Rows.{Gives, Becomes};
+ghost use Rattle.osd_files.specs.Whole.{IsWhole, IsWoken, Wakes};
 
 use crate::joining::{both, join_next};
-use crate::overdue::expire;
+use crate::overdue::{end_overdue, overdue};
 use crate::parts::Parts;
+use flease::FileLease;
 use std::alloc::Global;
 use xt_base::{Ballot, FileId, Members, NodeId, OutOfMemory};
 use xt_messages::Payload;
@@ -40,47 +42,72 @@ pub fn reads_of(
     Ok(sends(alloc, outs))
 }
 
-/// Renewal starts, where it is due.
-fn renews(file: &mut Parts, now: u64) -> Result<Turned, OutOfMemory>
+/// Renewal starts of such a lease of the file, where it is due: its Read goes to all members.
+fn told_renewal(file: &Parts, lease: &mut FileLease, now: u64) -> Result<Turned, OutOfMemory>
     requires clock { now < 2 ^ 62 }
-    requires settled { IsSettled file.old.lease now }
-    requires stored { IsStored file.old.lead.location }
-    ensures { IfOk result (λ turned. (h : Held) → file.old.lease ≡ held h →
-        IsRow (λ site s. rows.renews site s h) now (shown file.old) (shown file.new) turned) }
+    requires settled { IsSettled lease.old now }
+    requires stored { IsStored file.now.lead.location }
+    ensures { IfOk result (λ turned. (h : Held) → lease.old ≡ held h →
+        Gives (λ site s. rows.renews site s h) now (shown file.now) turned) }
 {
     let Some(location) = file.lead.location() else {
         unreachable!()
     };
-    let Some(ballot) = file.lease.renew(now, file.used, &location.members) else {
+    let Some(ballot) = lease.renew(now, file.used, &location.members) else {
         return Ok(quiet(file.alloc));
     };
     let (alloc, node, id) = (file.alloc, file.awake.node(), file.replica.file());
     reads_of(alloc, node, id, &location.members, ballot)
 }
 
-/// The rows of a Wake for a file, when nothing is overdue.
-fn wake_of_file(file: &mut Parts, now: u64) -> Result<Turned, OutOfMemory>
+/// What the rows of a Wake give at a file, after what is overdue.
+fn told_again(file: &Parts, now: u64) -> Result<Turned, OutOfMemory>
     requires clock { now < 2 ^ 62 }
-    requires settled { IsSettled file.old.lease now }
-    requires stored { ListUnder file.old.lease file.old.lead.location }
+    requires stored { ListUnder file.now.lease file.now.lead.location }
     ensures { IfOk result (λ turned.
-        IsRow rows.wake_of_file now (shown file.old) (shown file.new) turned) }
+        Gives (λ site s. rows.wake_of_file site (expired site s).state) now (shown file.now)
+        turned) }
 {
-    let Some(turn) = file.lease.turn(now) else {
+    let mut lease = file.lease.same();
+    lease.expire(now);
+    let Some(turn) = lease.turn(now) else {
         return Ok(quiet(file.alloc));
     };
     let woke = file.lead.wake(&turn)?;
-    let renewed = renews(file, now);
+    let renewed = told_renewal(file, &mut lease, now);
     join_next(woke, renewed)
 }
 
-/// A Wake of a file: what is overdue, and then the rows of a Wake.
-pub fn wake_whole(file: &mut Parts, now: u64) -> Result<Woken, OutOfMemory>
+/// What a Wake gives at a file at the clock `now`: of what is overdue, and then of the rows of a Wake. The file stays as it is
+/// until `end_wake`.
+pub fn wake(file: &Parts, now: u64) -> Result<Woken, OutOfMemory>
+    requires clock { now < 2 ^ 62 }
+    requires whole { IsWhole (shown file.now) }
+    ensures { IfOk result (λ woken. Wakes now (shown file.now) woken) }
+{
+    let overdue = overdue(file, now)?;
+    let (overdue, again) = both(overdue, told_again(file, now))?;
+    Ok(Woken { overdue, again })
+}
+
+/// A renewal that is due starts.
+fn start_renewal(file: &mut Parts, now: u64)
+    requires clock { now < 2 ^ 62 }
+    requires settled { IsSettled file.old.lease now }
+    requires stored { ListUnder file.old.lease file.old.lead.location }
+    ensures { Becomes rows.wake_of_file now (shown file.old) (shown file.new) }
+{
+    if let Some(location) = file.lead.location() {
+        file.lease.renew(now, file.used, &location.members);
+    }
+}
+
+/// The file after a Wake at the clock `now`: what was overdue has ended, and a renewal that was due runs. It takes no memory.
+pub fn end_wake(file: &mut Parts, now: u64)
     requires clock { now < 2 ^ 62 }
     requires whole { IsWhole (shown file.old) }
-    ensures { IfOk result (λ woken. IsWoken now (shown file.old) (shown file.new) woken) }
+    ensures { IsWoken now (shown file.old) (shown file.new) }
 {
-    let overdue = expire(file, now)?;
-    let (overdue, again) = both(overdue, wake_of_file(file, now))?;
-    Ok(Woken { overdue, again })
+    end_overdue(file, now);
+    start_renewal(file, now);
 }
