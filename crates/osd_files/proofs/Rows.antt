@@ -1,7 +1,7 @@
 -- from the row of a file that has changed to the row of the file before it
 use Rattle.std.proofs.Common.{◌≡◌, ◌∙◌, ℕ, Bool, true, false, refl, ap, sym, subst, Result, Ok, Err, Option, Some, None, IfSome, IfNone, List, cond, arith, ◌<◌}
 use Rattle.std.specs.Prelude.{◌==◌, nat_lt}
-use Rattle.std.specs.Result.{IfOk, OnOk}
+use Rattle.std.specs.Result.{IfOk, OnErr, OnOk}
 use Rattle.xt_base.specs.declared.ids.FileId.{FileId}
 use Rattle.xt_messages.specs.declared.record.Record.{Record}
 use Rattle.xt_base.specs.declared.ids.Stamp.{Stamp}
@@ -26,6 +26,16 @@ if_ok P Q (Err e) all h = h
 pub if_both : {A E : Type 0} (P : A → Type 0) (S : Type 0) (Q : A → Type 0) (r : Result A E) → ((a : A) → P a → S → Q a) → IfOk r P → OnOk r S → IfOk r Q
 if_both P S Q (Ok a) all h s = all a h s
 if_both P S Q (Err e) all h s = h
+
+-- what holds after a call that leaves all as it was where it fails
+pub in_both : {A E : Type 0} (P : A → Type 0) (S Q : Type 0) (r : Result A E) → ((a : A) → P a → Q) → (S → Q) → IfOk r P → OnErr r S → Q
+in_both P S Q (Ok a) ok err is same = ok a is
+in_both P S Q (Err e) ok err is same = err same
+
+-- what a step gave that is kept where it succeeded
+pub kept_ok : {A E F : Type 0} (P : F → A → Type 0) (made kept : F) (given r : Result A E) → r ≡ given → OnOk given (kept ≡ made) → IfOk given (P made) → IfOk r (P kept)
+kept_ok {A = A} {E = E} P made kept given r is same of =
+    subst (λ (x : Result A E). IfOk x (P kept)) (sym is) (if_both (P made) (kept ≡ made) (P kept) given (λ a holds k. subst (λ (f : _). P f a) (sym k) holds) of same)
 
 -- a row on a file is another row on the file as it was before
 pub row_from : (first second : Site → FileState → FileStep) (now : ℕ) (awake : Awake) (old mid : FileState) (new : FileView) (turned : Turned)

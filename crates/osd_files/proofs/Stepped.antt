@@ -1,5 +1,5 @@
 -- a file's step and its Wake, by their parts, and that both leave the file whole
-use Rattle.std.proofs.Common.{◌≡◌, ◌∙◌, ℕ, Bool, true, refl, ap, sym, subst, List, [], Option, None, inl, inr}
+use Rattle.std.proofs.Common.{◌≡◌, ◌∙◌, ℕ, Bool, true, refl, ap, sym, subst, List, [], Option, inl, inr}
 use Rattle.std.specs.Prelude.{◌⊎◌}
 use Rattle.xt_messages.specs.Limits.{FitsPayload}
 use Rattle.xt_base.specs.declared.ids.NodeId.{NodeId}
@@ -16,19 +16,15 @@ use Rattle.xt_messages.specs.declared.file.Capability.{Capability}
 use Rattle.xt_messages.specs.declared.message.Payload.{Payload}
 use Rattle.xt_messages.specs.declared.message.Payload.TheVariants as payload
 use Rattle.xt_protocol.specs.declared.turned.Turned.{Turned}
-use Rattle.xt_protocol.specs.LeaseRows.{Awake, LeaseState, Proposer, free}
-use Rattle.xt_protocol.specs.declared.states.Asks.{Asks}
-use Rattle.xt_protocol.specs.declared.states.Tenure.{Tenure}
-use Rattle.xt_protocol.specs.Asks.{no_asks}
-use Rattle.xt_protocol.specs.Primaries.{issued_by}
-use Rattle.xt_protocol.specs.FileStates.{FileState, Site, FileStep, and_then, members_of}
+use Rattle.xt_protocol.specs.LeaseRows.{Awake}
+use Rattle.xt_protocol.specs.FileStates.{FileState, Site, FileStep, and_then}
 use Rattle.xt_protocol.specs.FileLeases.{answer_comes}
 use Rattle.xt_protocol.specs.FileSteps.{message_comes, primary_hears, replica_acts, step_of_file, wake_of_file}
 use Rattle.xt_protocol.specs.Overdue.{expired}
 use Rattle.xt_protocol.specs.Turns.{joined}
-use Rattle.osd_invariants.specs.Sound.{AreOne, IsSound, LedUnder, ListUnder, PeersAre, WaitsUnder}
+use Rattle.osd_invariants.specs.Sound.{IsSound}
 use Rattle.osd_invariants.specs.OpenAsks.{AskIs, AsksAre, IsWithinLimits}
-use Rattle.osd_invariants.proofs.OpenAsks.{expired_are, none_are, step_are, wake_are}
+use Rattle.osd_invariants.proofs.OpenAsks.{expired_are, step_are, wake_are}
 use Rattle.osd_invariants.proofs.SoundSteps.{expired_so, step_so, wake_so}
 use Rattle.osd_files.specs.Kinds.{acted_on, is_for_lease, is_for_replica}
 use Rattle.osd_files.specs.Rows.{Becomes, IsRow, IsStep}
@@ -194,20 +190,3 @@ whole_woken now old new row whole =
     let step = wake_of_file site first in
     whole_as step.state new (row.state no_seal no_body) (wake_so site first (expired_so site old.state whole.sound))
     (wake_are IsWithinLimits site first (expired_are IsWithinLimits site old.state whole.asks))
-
--- a file without a lease, a tenure and asks
-pub given_up : (v : FileView) (p : Proposer) → v.state.lease ≡ free p → v.state.primary.tenure ≡ None → v.state.asks ≡ no_asks → IsWhole v
-given_up v p unleased idle unasked =
-    let s = v.state in
-    record {
-      sound =
-          record {
-            led = subst (λ (o : Option Tenure). LedUnder s.lease o) (sym idle) tt;
-            issued = subst (λ (o : Option Tenure). AreOne (issued_by o) s.asks.issued) (sym idle) (subst (λ (a : Asks). AreOne None a.issued) (sym unasked) tt);
-            waits = subst (λ (l : LeaseState). WaitsUnder l s.asks.waiting) (sym unleased) (ap (λ (a : Asks). a.waiting) unasked);
-            list = subst (λ (l : LeaseState). ListUnder l s.kept.location) (sym unleased) tt;
-            peers = subst (λ (o : Option Tenure). PeersAre (members_of s.kept.location) o) (sym idle) tt;
-            ready = λ r. ap (λ (a : Asks). a.waiting) unasked;
-          };
-      asks = subst (AsksAre IsWithinLimits) (sym unasked) (none_are IsWithinLimits);
-    }

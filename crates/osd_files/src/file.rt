@@ -1,4 +1,4 @@
-ghost use Rattle.std.specs.Prelude.{◌≡◌, ◌<◌, ◌^◌, ◌++◌, List, Bool, IfOk, OnOk};
+ghost use Rattle.std.specs.Prelude.{◌≡◌, ◌<◌, ◌^◌, ◌++◌, List, Bool, IfOk, OnErr, OnOk};
 ghost use Rattle.xt_messages.specs.Limits.{FitsPayload};
 ghost use Rattle.xt_messages.specs.declared.record.Record.{Record};
 ghost use Rattle.xt_protocol.specs.SeenBodies.{body_by};
@@ -10,7 +10,7 @@ ghost use Rattle.osd_files.specs.Whole.{IsRowOn, IsWoken, RowRises, Wakes};
 
 use crate::keeping::{forget, keep_held};
 use crate::parts::Parts;
-use crate::starting::{file_from, give_up};
+use crate::starting::file_from;
 use crate::steps::step_of_file;
 use crate::waking::{Woken, end_wake, wake};
 use flease::Awake;
@@ -63,8 +63,7 @@ impl OsdFile {
     }
 
     /// A message that concerns the file, at the clock `now`: what is overdue, and then the message's row. `sealed` says whether
-    /// the tag of an ask's capability is the key's. After an error, since memory ran out or a body couldn't be read, the file
-    /// isn't to be used again; it has no lease then, and no asks.
+    /// the tag of an ask's capability is the key's. After an error, since memory ran out or a body couldn't be read, it is as it was.
     pub fn take<B: Bodies>(
         &mut self,
         bodies: &mut B,
@@ -78,15 +77,10 @@ impl OsdFile {
         ensures row { IfOk result (λ turned. (records : List Record) → B.agrees bodies.new records →
             IsRowOn (λ site s. rows.step_of_file site s from payload.now) payload.now sealed now
             (body_by records) self.old self.new turned) }
+        ensures same { OnErr result (self.new ≡ self.old) }
         ensures reads { ReadsOnly B.agrees B.fault_count bodies.old bodies.new (fault_of result) }
     {
-        match step_of_file(&mut self.parts, bodies, now, sealed, from, payload) {
-            Ok(turned) => Ok(turned),
-            Err(error) => {
-                give_up(&mut self.parts);
-                Err(error)
-            }
-        }
+        step_of_file(&mut self.parts, bodies, now, sealed, from, payload)
     }
 
     /// What a Wake at the clock `now` gives: of what is overdue, and then of the rows of a Wake, apart, since an OSD reports the first

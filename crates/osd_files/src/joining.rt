@@ -4,6 +4,7 @@ ghost use Rattle.xt_protocol.specs.declared.turned.Turned.{Turned};
 ghost use Rattle.xt_protocol.specs.Turns as rows;
 
 use object_versions::StepErr;
+use std::mem;
 use xt_base::OutOfMemory;
 use xt_protocol::{Turned, join};
 
@@ -17,6 +18,13 @@ pub fn both<A: Drop, B, E>(made: A, next: Result<B, E>) -> Result<(A, B), E>
         Ok(next) => Ok((made, next)),
         Err(error) => Err(error),
     }
+}
+
+/// Puts a value in the place of another one, which is dropped by one call.
+pub fn put<T: Drop>(place: &mut T, value: T)
+    ensures { place.new ≡ value }
+{
+    drop(mem::replace(place, value));
 }
 
 /// What one part of a step gives, and then what the next one gives.

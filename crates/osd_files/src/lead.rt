@@ -29,7 +29,7 @@ use peer_searches::Searches;
 use replica_primary::{Phase, Primary};
 use std::alloc::Global;
 use std::marker::Model;
-use xt_base::{FileId, NodeId, OpId, OutOfMemory};
+use xt_base::{Copies, FileId, NodeId, OpId, OutOfMemory};
 use xt_messages::{FileHead, HeldSet, Location, ObjectVersion, Op, Payload, Record, Reply};
 use xt_protocol::{Turned, quiet};
 
@@ -381,6 +381,31 @@ impl Lead {
         Some(Record::View {
             file,
             location: *location,
+        })
+    }
+}
+
+/// Where a file is, and the primary that depends on that, once more.
+fn copy_listed(listed: &Listed, alloc: Global) -> Result<Listed, OutOfMemory>
+    ensures { IfOk result (λ made. made ≡ listed.now) }
+{
+    Ok(Listed {
+        location: listed.location,
+        primary: listed.primary.copy(alloc)?,
+    })
+}
+
+impl Copies for Lead {
+    fn copy(&self, alloc: Global) -> Result<Lead, OutOfMemory> {
+        let listed = match &self.listed {
+            Some(listed) => Some(copy_listed(listed, alloc)?),
+            None => None,
+        };
+        Ok(Lead {
+            alloc: self.alloc,
+            node: self.node,
+            file: self.file,
+            listed,
         })
     }
 }

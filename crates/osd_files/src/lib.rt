@@ -2,11 +2,12 @@
 //! and how it forgets the others.
 //!
 //! `OsdFile` does exactly what the rows of `xt_protocol` say (`step_of_file`, `expired`, `wake_of_file`) on the state that contracts
-//! see, which is sound at every moment. A call fails only where memory runs out or a body can't be read; then the file isn't to be
-//! used again. Clocks are in milliseconds, below 2^62. A primary acts only in a turn of the lease.
+//! see, which is sound at every moment. A call fails only where memory runs out or a body can't be read, and then the file is as it
+//! was. Clocks are in milliseconds, below 2^62. A primary acts only in a turn of the lease.
 #![tactic(auto)]
 
 mod asks;
+mod copying;
 mod file;
 mod hearing;
 mod joining;

@@ -1,7 +1,7 @@
 ghost use Rattle.std.specs.Prelude.{◌≡◌};
 ghost use Rattle.xt_protocol.specs.FileStates.{file_from};
 ghost use Rattle.osd_files.specs.Views.{shown};
-ghost use Rattle.osd_files.specs.Whole.{IsWhole, RowRises};
+ghost use Rattle.osd_files.specs.Whole.{RowRises};
 
 use crate::lead::Lead;
 use crate::parts::Parts;
@@ -32,14 +32,4 @@ pub fn file_from(alloc: Global, awake: &Awake, row: FileRow) -> Parts
         used: 0,
         asks: OpenAsks::new(alloc),
     }
-}
-
-/// Ends a file's lease and its primary's tenure, and drops its asks, as a stop does: so that a step that failed halfway leaves
-/// nothing by which the file acts.
-pub fn give_up(file: &mut Parts)
-    ensures { IsWhole (shown file.new) }
-{
-    file.lease = FileLease::new(file.awake);
-    file.lead.idle();
-    file.asks = OpenAsks::new(file.alloc);
 }

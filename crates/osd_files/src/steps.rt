@@ -1,4 +1,4 @@
-ghost use Rattle.std.specs.Prelude.{◌≡◌, ◌<◌, ◌^◌, List, Bool, IfOk};
+ghost use Rattle.std.specs.Prelude.{◌≡◌, ◌<◌, ◌^◌, List, Bool, IfOk, OnErr};
 ghost use Rattle.xt_messages.specs.Limits.{FitsCapability, FitsOp, FitsOpId, FitsPayload};
 ghost use Rattle.xt_messages.specs.declared.file.Capability.{Capability};
 ghost use Rattle.xt_messages.specs.declared.record.Record.{Record};
@@ -11,6 +11,7 @@ ghost use Rattle.osd_files.specs.Views.{shown, site_at};
 ghost use Rattle.osd_files.specs.Whole.{IsRowOn, IsWhole};
 
 use crate::asks::handle_ask;
+use crate::copying::{copy_of, kept_or_back};
 use crate::hearing::{fetch_comes, replica_comes};
 use crate::joining::join_rest;
 use crate::leading::primary_hears;
@@ -102,8 +103,8 @@ fn message_comes<B: Bodies>(
     }
 }
 
-/// The step of a file on a message that concerns it: what is overdue, and then the message.
-pub fn step_of_file<B: Bodies>(
+/// What is overdue, and then the message. After an error the file is halfway.
+fn step_in_place<B: Bodies>(
     file: &mut Parts,
     bodies: &mut B,
     now: u64,
@@ -122,4 +123,27 @@ pub fn step_of_file<B: Bodies>(
     let overdue = expire(file, now)?;
     let rest = message_comes(file, bodies, now, sealed, from, content);
     join_rest(overdue, rest)
+}
+
+/// The step of a file on a message that concerns it: what is overdue, and then the message. After an error the file is as it was.
+pub fn step_of_file<B: Bodies>(
+    file: &mut Parts,
+    bodies: &mut B,
+    now: u64,
+    sealed: bool,
+    from: NodeId,
+    content: &Payload,
+) -> Result<Turned, StepErr>
+    requires clock { now < 2 ^ 62 }
+    requires fits { FitsPayload content.now }
+    requires whole { IsWhole (shown file.old) }
+    ensures row { IfOk result (λ turned. (records : List Record) → B.agrees bodies.new records →
+        IsRowOn (λ site s. rows.step_of_file site s from content.now) content.now sealed now
+        (body_by records) (shown file.old) (shown file.new) turned) }
+    ensures same { OnErr result (shown file.new ≡ shown file.old) }
+    ensures reads { ReadsOnly B.agrees B.fault_count bodies.old bodies.new (fault_of result) }
+{
+    let before = copy_of(file)?;
+    let given = step_in_place(file, bodies, now, sealed, from, content);
+    kept_or_back(file, before, given)
 }

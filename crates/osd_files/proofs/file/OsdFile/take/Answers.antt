@@ -1,23 +1,33 @@
-use Rattle.std.proofs.Common.{subst, List}
+use Rattle.std.proofs.Common.{◌≡◌, IfOk, List, subst, sym}
 use Rattle.xt_messages.specs.declared.record.Record.{Record}
+use Rattle.xt_protocol.specs.declared.turned.Turned.{Turned}
 use Rattle.xt_protocol.specs.FileSteps.{step_of_file}
 use Rattle.xt_protocol.specs.SeenBodies.{body_by}
 use Rattle.osd_files.specs.Views.{FileView, shown}
-use Rattle.osd_files.specs.Whole.{IsRowOn}
+use Rattle.osd_files.specs.Whole.{IsRowOn, IsWhole}
+use Rattle.osd_files.proofs.Rows.{in_both}
 use Rattle.osd_files.proofs.Stepped.{whole_stepped}
 use Rattle.osd_files.proofs.file.OsdFile.take.Goals as goal
 
 pub invariant_of-self : goal.invariant_of-self
 invariant_of-self g c =
     let one = g.B.Bodies.some c.step_of_file.new.bodies in
-    whole_stepped c.args.now (body_by one.0) c.args.sealed c.args.from c.args.payload.now (shown c.self.inside.parts) (shown c.step_of_file.new.file) c.in-Ok.turned
-    (c.in-Ok.ensures.row one.0 one.1) c.requires.fits c.self.invariant
+    let agrees = g.B.Bodies.agrees c.step_of_file.new.bodies in
+    let content = c.args.payload.now in
+    let old = shown c.self.inside.parts in
+    let new = shown c.step_of_file.new.file in
+    let P : Turned → Type 0 = λ turned. (records : List Record) → agrees records
+    → IsRowOn (λ site s. step_of_file site s c.args.from content) content c.args.sealed c.args.now (body_by records) old new turned in
+    in_both P (new ≡ old) (IsWhole new) c.step_of_file.result
+    (λ turned row. whole_stepped c.args.now (body_by one.0) c.args.sealed c.args.from content old new turned (row one.0 one.1) c.requires.fits c.self.invariant)
+    (λ same. subst IsWhole (sym same) c.self.invariant)
+    c.step_of_file.ensures.row c.step_of_file.ensures.same
 
-pub returns-in-Ok-clause-row : goal.returns-in-Ok-clause-row
-returns-in-Ok-clause-row g c =
+pub returns-clause-row : goal.returns-clause-row
+returns-clause-row g c =
     let agrees = g.B.Bodies.agrees c.step_of_file.new.bodies in
     let content = c.args.payload.now in
     let new = shown c.step_of_file.new.file in
-    let P : FileView → Type 0 = λ old. (records : List Record) → agrees records
-    → IsRowOn (λ site s. step_of_file site s c.args.from content) content c.args.sealed c.args.now (body_by records) old new c.in-Ok.turned in
-    subst P c.self.view_is c.in-Ok.ensures.row
+    let P : FileView → Type 0 = λ old. IfOk c.step_of_file.result (λ turned. (records : List Record) → agrees records
+    → IsRowOn (λ site s. step_of_file site s c.args.from content) content c.args.sealed c.args.now (body_by records) old new turned) in
+    subst P c.self.view_is c.step_of_file.ensures.row
