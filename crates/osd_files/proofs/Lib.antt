@@ -7,6 +7,7 @@ pub mod Served
 pub mod LetIn
 pub mod Over
 pub mod Kept
+pub mod Held
 pub mod Counted
 pub mod Acked
 pub mod Noted

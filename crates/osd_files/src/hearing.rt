@@ -1,4 +1,4 @@
-ghost use Rattle.std.specs.Prelude.{◌≡◌, [], ℕ, List, true, IfOk, IfSome};
+ghost use Rattle.std.specs.Prelude.{◌≡◌, [], ℕ, List, true, IfOk, IfSome, OnErr};
 ghost use Rattle.xt_messages.specs.Limits.{FitsPayload};
 ghost use Rattle.xt_messages.specs.declared.record.Record.{Record};
 ghost use Rattle.xt_protocol.specs.Primaries.{if_any};
@@ -12,7 +12,7 @@ ghost use Rattle.object_versions.specs.KeptBodies.{fault_of, ReadsOnly};
 ghost use Rattle.replica_state.specs.Kept.{IsNotable};
 
 use crate::joining::both;
-use crate::leases::noted;
+use crate::noting::noted;
 use crate::parts::Parts;
 use object_versions::{Bodies, StepErr};
 use replica_primary::send_any;
@@ -55,12 +55,14 @@ fn replica_acts(
     })
 }
 
-/// A row that was decided: the replica takes its record, and its answer goes to whoever asked.
+/// A row that was decided: the replica takes its record, and its answer goes to whoever asked. Where memory runs out, the file
+/// is as it was.
 pub fn replica_takes(file: &mut Parts, from: NodeId, acted: Acted) -> Result<Turned, OutOfMemory>
     requires { IfSome acted.rec (IsNotable file.old.replica) }
-    ensures { IfOk result (λ turned. (now : ℕ) →
+    ensures row { IfOk result (λ turned. (now : ℕ) →
         IsRow (λ site s. rows.replica_acts site s from acted) now (shown file.old) (shown file.new)
         turned) }
+    ensures same { OnErr result (shown file.new ≡ shown file.old) }
 {
     let turned = replica_acts(file.alloc, file.awake.node(), from, acted)?;
     noted(
@@ -96,16 +98,17 @@ fn acts(replica: &Replica, content: &Payload) -> Result<Acted, OutOfMemory>
     }
 }
 
-/// A message to the replica comes: Gather, Stage, Head or Update.
+/// A message to the replica comes: Gather, Stage, Head or Update. Where memory runs out, the file is as it was.
 pub fn replica_comes(
     file: &mut Parts,
     from: NodeId,
     content: &Payload,
 ) -> Result<Turned, OutOfMemory>
     requires { FitsPayload content.now }
-    ensures { IfOk result (λ turned. is_for_replica content.now ≡ true → (now : ℕ) →
+    ensures row { IfOk result (λ turned. is_for_replica content.now ≡ true → (now : ℕ) →
         IsRow (λ site s. rows.message_comes site s from content.now) now (shown file.old)
         (shown file.new) turned) }
+    ensures same { OnErr result (shown file.new ≡ shown file.old) }
 {
     let acted = acts(&file.replica, content)?;
     replica_takes(file, from, acted)

@@ -15,7 +15,8 @@ ghost use Rattle.osd_files.specs.Rows.{IsRowBy};
 ghost use Rattle.osd_files.specs.Views.{shown};
 
 use crate::joining::join_rest;
-use crate::leases::{noted, stay_in_range};
+use crate::leases::stay_in_range;
+use crate::noting::noted;
 use crate::parts::Parts;
 use crate::serving::asks_follow;
 use flease::FileLease;

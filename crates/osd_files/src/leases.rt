@@ -1,34 +1,25 @@
-ghost use Rattle.std.specs.Prelude.{◌≡◌, ◌<◌, ◌^◌, ℕ, List, Bool, true, Option, None, IfOk, IfNone, IfSome, OnOk, OnErr, map, if◌then◌else◌};
-ghost use Rattle.xt_messages.specs.declared.file.Location.{Location};
+ghost use Rattle.std.specs.Prelude.{◌≡◌, ◌<◌, ◌^◌, ℕ, List, Bool, true, IfOk, map, if◌then◌else◌};
 ghost use Rattle.xt_base.specs.declared.ids.NodeId.{NodeId};
 ghost use Rattle.xt_base.specs.declared.ids.Boot.{Boot};
 ghost use Rattle.xt_messages.specs.declared.message.Payload.TheVariants as payload;
 ghost use Rattle.xt_protocol.specs.LeaseRows.{renewal_takes_under, running_round};
 ghost use Rattle.flease.specs.Moves.{IsSettled};
 ghost use Rattle.osd_invariants.specs.Sound.{IsStored, ListUnder};
-ghost use Rattle.replica_state.specs.Kept.{IsNotable};
-ghost use Rattle.xt_protocol.specs.ReplicaRows.{kept_after};
 ghost use Rattle.xt_protocol.specs.Turns.{message, sends};
-ghost use Rattle.xt_protocol.specs.FileStates.{staged_after};
 ghost use Rattle.xt_protocol.specs.FileLeases as rows;
 ghost use Rattle.xt_protocol.specs.FileSteps.{message_comes};
 ghost use Rattle.osd_files.specs.Answers.{read_answer, write_answer, answered_write, news_of, HasTurn, HoldBy};
-ghost use Rattle.peer_searches.specs.Sound.{AreSound};
-ghost use Rattle.xt_protocol.specs.declared.states.Peer.{Peer};
 ghost use Rattle.osd_files.specs.Views.{shown};
 ghost use Rattle.osd_files.specs.Kinds.{is_for_lease};
 ghost use Rattle.osd_files.specs.Rows.{IsRow};
 
-use crate::joining::{both, join_next};
+use crate::joining::join_next;
+use crate::noting::noted;
 use crate::parts::Parts;
-use crate::seeking::begin_anew;
-use crate::staging::note_staged;
 use flease::{FileLease, News, ReadAnswer, WriteAnswer};
-use peer_searches::Searches;
-use replica_state::Replica;
 use std::alloc::Global;
-use xt_base::{Ballot, Boot, FileId, Lease, NodeId, OptionalBox, OutOfMemory, Seq};
-use xt_messages::{HeldSet, Mark, Payload, Record, Reply};
+use xt_base::{Ballot, Boot, FileId, Lease, NodeId, OutOfMemory, Seq};
+use xt_messages::{Mark, Payload, Reply};
 use xt_protocol::{Turned, message, quiet, sends, sends_one, shows};
 
 /// The message that answers a Read.
@@ -168,46 +159,6 @@ fn writes_to(
         outs.push(message(node, target.0, content))?;
     }
     Ok(sends(alloc, outs))
-}
-
-/// Takes what was recorded, if anything was, in the own replica.
-fn note(replica: &mut Replica, rec: &OptionalBox<Record>) -> Result<(), OutOfMemory>
-    requires { IfSome rec.now (IsNotable replica.old) }
-    ensures ok { OnOk result ((location : Option Location) →
-        record replica.new { location = location } ≡
-        kept_after (record replica.old { location = location }) rec.now) }
-    ensures file { replica.new.file ≡ replica.old.file }
-    ensures none { IfNone rec.now (replica.new ≡ replica.old) }
-{
-    match rec.get() {
-        Some(rec) => replica.note(rec),
-        None => Ok(()),
-    }
-}
-
-/// What the primary or a member of a striped file gave, once the own replica has taken what it recorded, and the staged bodies and the
-/// searches for what peers lack follow it.
-pub fn noted(
-    replica: &mut Replica,
-    staged: &mut HeldSet,
-    searches: &mut Searches,
-    turned: Turned,
-) -> Result<Turned, OutOfMemory>
-    requires { IfSome turned.rec (IsNotable replica.old) }
-    ensures turned { IfOk result (λ given. given ≡ turned) }
-    ensures staged { OnOk result (staged.new ≡ staged_after staged.old turned.rec) }
-    ensures ok { OnOk result ((location : Option Location) →
-        record replica.new { location = location } ≡
-        kept_after (record replica.old { location = location }) turned.rec) }
-    ensures file { replica.new.file ≡ replica.old.file }
-    ensures sound { (peers : List Peer) →
-        AreSound replica.old.head.versions peers searches.old →
-        AreSound replica.new.head.versions peers searches.new }
-{
-    begin_anew(searches, turned.rec.is_some());
-    let done = note(replica, &turned.rec);
-    let (turned, ()) = both(turned, done)?;
-    note_staged(staged, turned)
 }
 
 /// The number of a node has 32 bits.

@@ -1,4 +1,4 @@
-ghost use Rattle.std.specs.Prelude.{◌≡◌, List, Bool, IfOk, IfSome};
+ghost use Rattle.std.specs.Prelude.{◌≡◌, List, Bool, IfOk, IfSome, OnErr};
 ghost use Rattle.xt_messages.specs.Limits.{FitsCapability, FitsHead, FitsOp, FitsOpId};
 ghost use Rattle.xt_messages.specs.declared.file.Capability.{Capability};
 ghost use Rattle.xt_messages.specs.declared.file.Kind.TheVariants as kind;
@@ -93,7 +93,8 @@ fn member_acts<B: Bodies>(
     }
 }
 
-/// An ask on a striped file: the replica takes the update that the member made, and the client is sent the reply.
+/// An ask on a striped file: the replica takes the update that the member made, and the client is sent the reply. After an error
+/// the file is as it was.
 pub fn handle_striped<B: Bodies>(
     file: &mut Parts,
     bodies: &mut B,
@@ -111,6 +112,7 @@ pub fn handle_striped<B: Bodies>(
         IsStep (λ site s. steps.ask_comes site s kind.Striped id capability.now op.now)
         (site_at file.old.awake now test (body_by records)) (shown file.old) (shown file.new)
         turned) }
+    ensures same { OnErr result (shown file.new ≡ shown file.old) }
     ensures reads { ReadsOnly B.agrees B.fault_count bodies.old bodies.new (fault_of result) }
 {
     let acted = member_acts(file, bodies, now, sealed, id, capability, op)?;

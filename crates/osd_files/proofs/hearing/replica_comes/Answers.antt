@@ -9,8 +9,8 @@ use Rattle.osd_files.proofs.Rows.{if_ok}
 use Rattle.osd_files.proofs.Stepped.{replica_row}
 use Rattle.osd_files.proofs.hearing.replica_comes.Goals as goal
 
-pub returns : goal.returns
-returns c =
+pub returns-clause-row : goal.returns-clause-row
+returns-clause-row c =
     let old = shown c.args.file.now in
     let new = shown c.replica_takes.new.file in
     let from = c.args.from in
@@ -28,4 +28,4 @@ returns c =
           ∙ (row now sealed body).step;
     }
     in
-    if_ok P Q c.replica_takes.result all c.replica_takes.ensures
+    if_ok P Q c.replica_takes.result all c.replica_takes.ensures.row

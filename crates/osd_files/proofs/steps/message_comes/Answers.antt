@@ -84,4 +84,4 @@ returns-in_ok-lease_comes-in-Read-clause-row g c =
 
 pub returns-in_ok-replica_comes-in-Gather-clause-row : goal.returns-in_ok-replica_comes-in-Gather-clause-row
 returns-in_ok-replica_comes-in-Gather-clause-row g c =
-    λ records agree test sealed. c.in_ok-replica_comes-in-Gather.ensures (for_replica c.args.content.now c.in-Gather.is) c.args.now test (body_by records)
+    λ records agree test sealed. c.in_ok-replica_comes-in-Gather.ensures.row (for_replica c.args.content.now c.in-Gather.is) c.args.now test (body_by records)

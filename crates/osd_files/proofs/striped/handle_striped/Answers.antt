@@ -10,7 +10,7 @@ returns-clause-row g c =
     λ records agree test is.
     let old = shown c.args.file.now in
     let site = site_at old.awake c.args.now test (body_by records) in
-    let row = c.in_ok-replica_takes.ensures c.args.now test (body_by records) in
+    let row = c.in_ok-replica_takes.ensures.row c.args.now test (body_by records) in
     record {
       here = row.here;
       step = ap (λ (a : Acted). replica_acts site old.state c.args.id.client a) (sym (c.in_ok-acted.ensures.row records agree test is)) ∙ row.step;
