@@ -1,5 +1,6 @@
 -- what an ask that is let in does, by what the code stores
-use Rattle.std.proofs.Common.{◌≡◌, ◌∙◌, ℕ, refl, ap, sym, Option, Some, None}
+use Rattle.std.proofs.Common.{◌≡◌, ◌∙◌, ℕ, refl, ap, sym, Option, Some, None, true}
+use Rattle.std.specs.Prelude.{is_some}
 use Rattle.xt_base.specs.declared.ids.OpId.{OpId}
 use Rattle.xt_messages.specs.declared.file.Location.{Location}
 use Rattle.xt_messages.specs.declared.file.Capability.{Capability}
@@ -23,6 +24,20 @@ stores : (site : Site) (s : FileState) (location : Location) (ask : WaitingAsk) 
 stores site s location ask None is = refl
 stores site s location ask (Some stored) is =
     ap (λ (l : Option Location). behind_it (keeps None) (ask_rows site (listed s site.now l) ask)) is
+
+-- an ask on a file whose list is stored
+pub let_again : (site : Site) (s : FileState) (id : OpId) (capability : Capability) (asked : Op) (ask : WaitingAsk) → is_some s.kept.location ≡ true → ask ≡ waiting_ask site id capability.epoch asked
+    → ask_let_in site s id capability asked None ≡ ask_rows site (record s { used = site.now }) ask
+let_again site s id capability asked ask is_stored is =
+    by s.kept.location is_stored ∙ ap (λ (a : WaitingAsk). ask_rows site (record s { used = site.now }) a) (sym is)
+  where
+    made : WaitingAsk
+    made = waiting_ask site id capability.epoch asked
+
+    by : (o : Option Location) → is_some o ≡ true
+        → and_then (steps_to (record s { used = site.now }) (keeps (view_record s capability.location o))) (λ state. ask_rows site state made) ≡ ask_rows site (record s { used = site.now }) made
+    by None none = absurd cc
+    by (Some stored) some = refl
 
 pub let_row : (site : Site) (s : FileState) (id : OpId) (capability : Capability) (asked : Op) (kept : Turned) (location : Option Location) (ask : WaitingAsk)
     → kept ≡ keeps (first_list s.kept.file capability.location s.kept.location) → location ≡ list_after s.kept.location capability.location

@@ -1,4 +1,4 @@
-ghost use Rattle.std.specs.Prelude.{◌≡◌, ◌<◌, ◌^◌, ◌+◌, ◌/◌, ℕ, List, Bool, true, false, Option, Some, None, IfOk, IsTrue, IfSome, is_some, ◌&&◌};
+ghost use Rattle.std.specs.Prelude.{◌≡◌, ◌<◌, ◌^◌, ◌+◌, ◌/◌, ℕ, List, Bool, true, false, Option, Some, None, IfOk, IsTrue, IfSome, OnErr, is_some, ◌&&◌};
 ghost use Rattle.xt_messages.specs.Limits.{FitsOp, FitsStripe};
 ghost use Rattle.xt_messages.specs.declared.file.Capability.{Capability};
 ghost use Rattle.xt_messages.specs.declared.file.FileHead.{FileHead};
@@ -20,7 +20,7 @@ ghost use Rattle.osd_files.specs.Asking.{asks_once_done};
 ghost use Rattle.osd_files.specs.Views.{shown, site_at};
 ghost use Rattle.osd_files.specs.Rows.{IsStep, IsRow, IsRowBy};
 
-use crate::joining::join_rest;
+use crate::joining::{both, join_rest};
 use crate::lead::Lead;
 use crate::parts::Parts;
 use crate::waking::reads_of;
@@ -100,41 +100,48 @@ fn elsewhere(node: NodeId, now: u64, accepted: Option<Lease>) -> Option<Reply>
     }
 }
 
-/// Waits.
+/// Waits. Where memory runs out, the file is as it was.
 fn ask_waits(file: &mut Parts, ask: WaitingAsk) -> Result<Turned, OutOfMemory>
-    ensures { IfOk result (λ turned. (now : ℕ) →
+    ensures row { IfOk result (λ turned. (now : ℕ) →
         IsRow (λ site s. rows.ask_waits s ask) now (shown file.old) (shown file.new) turned) }
+    ensures same { OnErr result (shown file.new ≡ shown file.old) }
 {
     file.asks.wait(ask)?;
     Ok(quiet(file.alloc))
 }
 
-/// Round starts: the ask waits for it; without a count left nothing comes of the ask.
+/// Round starts: the ask waits for it; without a count left nothing comes of the ask. Where memory runs out, the file is as it
+/// was.
 fn round_for(file: &mut Parts, now: u64, ask: WaitingAsk) -> Result<Turned, OutOfMemory>
     requires clock { now < 2 ^ 62 }
     requires stored { IsStored file.old.lead.location }
-    ensures { IfOk result (λ turned. (p : Proposer) → file.old.lease ≡ free p →
+    ensures row { IfOk result (λ turned. (p : Proposer) → file.old.lease ≡ free p →
         IsRow (λ site s. rows.round_for site s p ask) now (shown file.old) (shown file.new)
         turned) }
+    ensures same { OnErr result (shown file.new ≡ shown file.old) }
 {
     let Some(location) = file.lead.location() else {
         unreachable!()
     };
-    let Some(ballot) = file.lease.ask(now, &location.members) else {
+    let mut lease = file.lease.same();
+    let Some(ballot) = lease.ask(now, &location.members) else {
         return Ok(quiet(file.alloc));
     };
-    file.asks.wait(ask)?;
     let (alloc, node, id) = (file.alloc, file.awake.node(), file.replica.file());
-    reads_of(alloc, node, id, &location.members, ballot)
+    let reads = reads_of(alloc, node, id, &location.members, ballot)?;
+    let (reads, ()) = both(reads, file.asks.wait(ask))?;
+    file.lease = lease;
+    Ok(reads)
 }
 
-/// An ask where there is neither a lease nor a round.
+/// An ask where there is neither a lease nor a round. Where memory runs out, the file is as it was.
 fn ask_without_lease(file: &mut Parts, now: u64, ask: WaitingAsk) -> Result<Turned, OutOfMemory>
     requires clock { now < 2 ^ 62 }
     requires stored { IsStored file.old.lead.location }
-    ensures { IfOk result (λ turned. (p : Proposer) → file.old.lease ≡ free p →
+    ensures row { IfOk result (λ turned. (p : Proposer) → file.old.lease ≡ free p →
         IsRow (λ site s. rows.ask_under site s (free p) ask) now (shown file.old) (shown file.new)
         turned) }
+    ensures same { OnErr result (shown file.new ≡ shown file.old) }
 {
     let (alloc, node, id) = (file.alloc, file.awake.node(), file.replica.file());
     match elsewhere(node, now, file.acceptor.lease()) {
@@ -143,7 +150,7 @@ fn ask_without_lease(file: &mut Parts, now: u64, ask: WaitingAsk) -> Result<Turn
     }
 }
 
-/// A write or truncation in a turn of the primary; one that meets an issued one waits.
+/// A write or truncation in a turn of the primary; one that meets an issued one waits. After an error the file is as it was.
 fn serve_write<B: Bodies>(
     file: &mut Parts,
     bodies: &mut B,
@@ -158,6 +165,7 @@ fn serve_write<B: Bodies>(
         is_read ask.op ≡ false →
         IsRowBy (λ site s. rows.serve_ask site s ask) now (body_by records) (shown file.old)
         (shown file.new) turned) }
+    ensures same { OnErr result (shown file.new ≡ shown file.old) }
     ensures reads { ReadsOnly B.agrees B.fault_count bodies.old bodies.new (fault_of result) }
 {
     let Some(turn) = file.lease.turn(now) else {
@@ -173,7 +181,7 @@ fn serve_write<B: Bodies>(
     }
 }
 
-/// Read served, or the rows for writes; a write that meets an issued one waits.
+/// Read served, or the rows for writes; a write that meets an issued one waits. After an error the file is as it was.
 fn serve_ask<B: Bodies>(
     file: &mut Parts,
     bodies: &mut B,
@@ -187,6 +195,7 @@ fn serve_ask<B: Bodies>(
     ensures row { IfOk result (λ turned. (records : List Record) → B.agrees bodies.new records →
         IsRowBy (λ site s. rows.serve_ask site s ask) now (body_by records) (shown file.old)
         (shown file.new) turned) }
+    ensures same { OnErr result (shown file.new ≡ shown file.old) }
     ensures reads { ReadsOnly B.agrees B.fault_count bodies.old bodies.new (fault_of result) }
 {
     if !is_read(&ask.op) {
@@ -204,7 +213,7 @@ fn may_serve(lease: &FileLease, lead: &Lead, now: u64) -> bool
 }
 
 /// Asked already; or an ask by the lease: served while the primary is active; else it waits for the primary or the round; else it
-/// is sent elsewhere, or a round starts.
+/// is sent elsewhere, or a round starts. After an error the file is as it was.
 fn ask_rows<B: Bodies>(
     file: &mut Parts,
     bodies: &mut B,
@@ -218,6 +227,7 @@ fn ask_rows<B: Bodies>(
     ensures row { IfOk result (λ turned. (records : List Record) → B.agrees bodies.new records →
         IsRowBy (λ site s. rows.ask_rows site s ask) now (body_by records) (shown file.old)
         (shown file.new) turned) }
+    ensures same { OnErr result (shown file.new ≡ shown file.old) }
     ensures reads { ReadsOnly B.agrees B.fault_count bodies.old bodies.new (fault_of result) }
 {
     if file.asks.has(ask.id) {
@@ -248,7 +258,34 @@ fn waiting_ask(times: Times, now: u64, id: OpId, epoch: u64, op: Op) -> WaitingA
     }
 }
 
-/// An ask that is let in: the first one's list is stored, and it counts as a use.
+/// An ask that is let in counts as a use, and goes by the rows. After an error the file is as it was.
+fn ask_counts<B: Bodies>(
+    file: &mut Parts,
+    bodies: &mut B,
+    now: u64,
+    ask: WaitingAsk,
+) -> Result<Turned, StepErr>
+    requires clock { now < 2 ^ 62 }
+    requires settled { IsSettled file.old.lease now }
+    requires stored { IsStored file.old.lead.location }
+    requires fits { FitsOp ask.op }
+    ensures row { IfOk result (λ turned. (records : List Record) → B.agrees bodies.new records →
+        IsRowBy (λ site s. rows.ask_rows site (record s { used = site.now }) ask) now
+        (body_by records) (shown file.old) (shown file.new) turned) }
+    ensures same { OnErr result (shown file.new ≡ shown file.old) }
+    ensures reads { ReadsOnly B.agrees B.fault_count bodies.old bodies.new (fault_of result) }
+{
+    let used = file.used;
+    file.used = now;
+    let rest = ask_rows(file, bodies, now, ask);
+    if rest.is_err() {
+        file.used = used;
+    }
+    rest
+}
+
+/// An ask that is let in: the first one's list is stored, and it counts as a use. After an error a file whose list was stored
+/// is as it was.
 fn let_in<B: Bodies>(
     file: &mut Parts,
     bodies: &mut B,
@@ -264,17 +301,22 @@ fn let_in<B: Bodies>(
     ensures row { IfOk result (λ turned. (records : List Record) → B.agrees bodies.new records →
         IsRowBy (λ site s. rows.ask_let_in site s id capability.now op.now None) now
         (body_by records) (shown file.old) (shown file.new) turned) }
+    ensures same { OnErr result (IsStored file.old.lead.location →
+        shown file.new ≡ shown file.old) }
     ensures reads { ReadsOnly B.agrees B.fault_count bodies.old bodies.new (fault_of result) }
 {
     let asked = op.copy(file.alloc)?;
     let ask = waiting_ask(file.awake.times(), now, id, capability.epoch, asked);
+    if file.lead.location().is_some() {
+        return ask_counts(file, bodies, now, ask);
+    }
     let kept = keeps(file.alloc, file.lead.list_once(&capability.location))?;
-    file.used = now;
-    let rest = ask_rows(file, bodies, now, ask);
+    let rest = ask_counts(file, bodies, now, ask);
     join_rest(kept, rest)
 }
 
-/// An ask on a replicated file, where `sealed` says whether the capability's tag is the key's: it is refused, or let in.
+/// An ask on a replicated file, where `sealed` says whether the capability's tag is the key's: it is refused, or let in. After an
+/// error a file whose list was stored is as it was.
 pub fn handle_ask<B: Bodies>(
     file: &mut Parts,
     bodies: &mut B,
@@ -293,6 +335,8 @@ pub fn handle_ask<B: Bodies>(
         IsStep (λ site s. rows.handle_ask site s id capability.now op.now)
         (site_at file.old.awake now test (body_by records)) (shown file.old) (shown file.new)
         turned) }
+    ensures same { OnErr result (IsStored file.old.lead.location →
+        shown file.new ≡ shown file.old) }
     ensures reads { ReadsOnly B.agrees B.fault_count bodies.old bodies.new (fault_of result) }
 {
     let (alloc, node, own) = (file.alloc, file.awake.node(), file.replica.file());

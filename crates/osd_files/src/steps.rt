@@ -5,6 +5,7 @@ ghost use Rattle.xt_messages.specs.declared.record.Record.{Record};
 ghost use Rattle.xt_protocol.specs.SeenBodies.{body_by};
 ghost use Rattle.flease.specs.Moves.{IsSettled};
 ghost use Rattle.object_versions.specs.KeptBodies.{fault_of, ReadsOnly};
+ghost use Rattle.osd_invariants.specs.Sound.{IsStored};
 ghost use Rattle.xt_protocol.specs.FileSteps as rows;
 ghost use Rattle.osd_files.specs.Rows.{IsStep};
 ghost use Rattle.osd_files.specs.Views.{shown, site_at};
@@ -24,7 +25,7 @@ use xt_base::{NodeId, OpId};
 use xt_messages::{Capability, Kind, Op, Payload};
 use xt_protocol::Turned;
 
-/// An ask by the kind of its file.
+/// An ask by the kind of its file. After an error a file whose list was stored is as it was.
 fn ask_comes<B: Bodies>(
     file: &mut Parts,
     bodies: &mut B,
@@ -45,6 +46,8 @@ fn ask_comes<B: Bodies>(
         rows.ask_comes site s capability.now.location.kind id capability.now op.now)
         (site_at file.old.awake now test (body_by records)) (shown file.old) (shown file.new)
         turned) }
+    ensures same { OnErr result (IsStored file.old.lead.location →
+        shown file.new ≡ shown file.old) }
     ensures reads { ReadsOnly B.agrees B.fault_count bodies.old bodies.new (fault_of result) }
 {
     match capability.location.kind {

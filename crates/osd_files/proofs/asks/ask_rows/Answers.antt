@@ -15,7 +15,7 @@ returns-then-is_free-clause-row g c =
     λ records agree sealed.
     let body = body_by records in
     let site = site_at old.awake c.args.now sealed body in
-    let row = c.in_ok-ask_without_lease.ensures by.0 by.1 sealed body in
+    let row = c.in_ok-ask_without_lease.ensures.row by.0 by.1 sealed body in
     record {
       here = row.here;
       step = new_ask site old.state ask (sym c.has.ensures ∙ c.if-has.false) ∙ ap (λ (l : LeaseState). ask_under site old.state l ask) by.1 ∙ row.step;
@@ -39,7 +39,7 @@ returns-clause-row g c =
     λ records agree sealed.
     let body = body_by records in
     let site = site_at old.awake c.args.now sealed body in
-    let row = c.in_ok-ask_waits.ensures c.args.now sealed body in
+    let row = c.in_ok-ask_waits.ensures.row c.args.now sealed body in
     record {
       here = row.here;
       step =

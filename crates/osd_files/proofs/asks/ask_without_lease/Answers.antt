@@ -9,8 +9,8 @@ use Rattle.osd_files.specs.Views.{shown, site_at}
 use Rattle.osd_files.proofs.Rows.{if_ok, row_from}
 use Rattle.osd_files.proofs.asks.ask_without_lease.Goals as goal
 
-pub returns-in-None : goal.returns-in-None
-returns-in-None c =
+pub returns-in-None-clause-row : goal.returns-in-None-clause-row
+returns-in-None-clause-row c =
     let f = c.args.file.now in
     let old = shown f in
     let new = shown c.round_for.new.file in
@@ -28,4 +28,4 @@ returns-in-None c =
     (ap (elsewhere site) (sym c.lease.ensures) ∙ sym (c.in-None.ensures site (sym c.node-node.ensures) refl)))
     (row p is)
     in
-    if_ok P Q c.round_for.result all c.round_for.ensures
+    if_ok P Q c.round_for.result all c.round_for.ensures.row

@@ -52,7 +52,7 @@ returns-in_ok-ask_waits-in-None-clause-row g c =
     ∙ sym (c.in_ok-led.ensures.value records agree f.replica.head f.replica.held)
     ∙ ap (λ (o : Option Turned). option_map led_by o) c.in-None.is in
     let same : new ≡ f.lead = subst (λ (o : Option Turned). IfNone o (new ≡ f.lead)) c.in-None.is c.in_ok-led.ensures.waits in
-    let row = c.in_ok-ask_waits-in-None.ensures c.args.now sealed (body_by records) in
+    let row = c.in_ok-ask_waits-in-None.ensures.row c.args.now sealed (body_by records) in
     record {
       here = row.here;
       step =
