@@ -223,18 +223,24 @@ pub hears_counted : (members : List NodeId) (g : Ground) (p : PrimaryState) (fro
 unfolding hears
 hears_counted members g p from content counted = heard_in members g p.learnt p.tenure from content counted
 
+-- what is as it was after an error, or idle
+pub failed : {V : Type 0} (P : V → Type 0) (old ended new : V) (light : Bool) → (light ≡ false → new ≡ ended) → (light ≡ true → new ≡ old) → P old → P ended → P new
+failed P old ended new true idled same kept gone = subst P (sym (same refl)) kept
+failed P old ended new false idled same kept gone = subst P (sym (idled refl)) gone
+
 -- a primary that got a message, whatever came of it
-pub take_counted : {E : Type 0} (members : List NodeId) (g : Ground) (old new : PrimaryView) (from : NodeId) (content : Payload) (r : Result Turned E)
+pub take_counted : {E : Type 0} (members : List NodeId) (g : Ground) (old new : PrimaryView) (from : NodeId) (content : Payload) (light : Bool) (r : Result Turned E)
     → IsCounted members old.state.tenure
-    → IfOk r (λ led. new ≡ record old { state = (hears g old.state from content).primary }) → OnErr r (new ≡ record old { state = idle old.state })
+    → IfOk r (λ led. new ≡ record old { state = (hears g old.state from content).primary }) → OnErr r (light ≡ false → new ≡ record old { state = idle old.state }) → OnErr r (light ≡ true → new ≡ old)
     → IsCounted members new.state.tenure
-take_counted members g old new from content (Ok led) counted state idled =
+take_counted members g old new from content light (Ok led) counted state idled same =
     subst (λ (v : PrimaryView). IsCounted members v.state.tenure) (sym state) (hears_counted members g old.state from content counted)
-take_counted members g old new from content (Err e) counted state idled =
-    subst (λ (v : PrimaryView). IsCounted members v.state.tenure) (sym idled) tt
+take_counted members g old new from content light (Err e) counted state idled same =
+    failed (λ (v : PrimaryView). IsCounted members v.state.tenure) old (record old { state = idle old.state }) new light idled same counted tt
 
 -- a call that changes the state alone
-pub place_taken : {A E : Type 0} (old new : PrimaryView) (state : PrimaryState) (place : Place) (r : Result A E) → old.place ≡ place → IfOk r (λ a. new ≡ record old { state = state })
-    → OnErr r (new ≡ record old { state = idle old.state }) → new.place ≡ place
-place_taken old new state place (Ok a) is kept idled = ap (λ (v : PrimaryView). v.place) kept ∙ is
-place_taken old new state place (Err e) is kept idled = ap (λ (v : PrimaryView). v.place) idled ∙ is
+pub place_taken : {A E : Type 0} (old new : PrimaryView) (state : PrimaryState) (place : Place) (light : Bool) (r : Result A E) → old.place ≡ place → IfOk r (λ a. new ≡ record old { state = state })
+    → OnErr r (light ≡ false → new ≡ record old { state = idle old.state }) → OnErr r (light ≡ true → new ≡ old) → new.place ≡ place
+place_taken old new state place light (Ok a) is kept idled same = ap (λ (v : PrimaryView). v.place) kept ∙ is
+place_taken old new state place light (Err e) is kept idled same =
+    failed (λ (v : PrimaryView). v.place ≡ place) old (record old { state = idle old.state }) new light idled same is is

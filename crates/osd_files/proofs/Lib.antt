@@ -8,6 +8,7 @@ pub mod LetIn
 pub mod Over
 pub mod Kept
 pub mod Held
+pub mod Lightly
 pub mod Counted
 pub mod Acked
 pub mod Noted

@@ -23,6 +23,11 @@ pub if_ok : {A E : Type 0} (P Q : A → Type 0) (r : Result A E) → ((a : A) �
 if_ok P Q (Ok a) all h = all a h
 if_ok P Q (Err e) all h = h
 
+-- what holds in any case, of an error
+pub on_err : {A E : Type 0} (r : Result A E) (S : Type 0) → S → OnErr r S
+on_err (Ok a) S s = tt
+on_err (Err e) S s = s
+
 pub if_both : {A E : Type 0} (P : A → Type 0) (S : Type 0) (Q : A → Type 0) (r : Result A E) → ((a : A) → P a → S → Q a) → IfOk r P → OnOk r S → IfOk r Q
 if_both P S Q (Ok a) all h s = all a h s
 if_both P S Q (Err e) all h s = h

@@ -9,3 +9,4 @@ pub mod Serves
 pub mod Whole
 pub mod Kinds
 pub mod Sought
+pub mod Light

@@ -1,4 +1,4 @@
-ghost use Rattle.std.specs.Prelude.{◌≡◌, ◌≤◌, ◌+◌, ◌/◌, IfOk, IfNone, IfSome, OnErr, List, None, Some, is_none, is_some};
+ghost use Rattle.std.specs.Prelude.{◌≡◌, ◌≤◌, ◌+◌, ◌/◌, IfOk, IfNone, IfSome, OnErr, List, None, Some, false, is_none, is_some, true};
 ghost use Rattle.xt_messages.specs.Limits.{FitsStripe};
 ghost use Rattle.osd_invariants.specs.Sound.{IsStored};
 ghost use Rattle.xt_protocol.specs.Primaries as rows;
@@ -15,7 +15,7 @@ ghost use Rattle.xt_messages.specs.declared.record.Record.{Record};
 ghost use Rattle.object_versions.specs.Rising.{HeadRises};
 ghost use Rattle.object_versions.specs.KeptBodies.{fault_of, ReadsOnly};
 ghost use Rattle.peer_searches.specs.Sound.{AreSound};
-ghost use Rattle.replica_primary.specs.Moves.{peers_under};
+ghost use Rattle.replica_primary.specs.Moves.{is_light_led, peers_under};
 ghost use Rattle.replica_primary.specs.Written.{ground};
 ghost use Rattle.xt_protocol.specs.FileStates.{members_of};
 ghost use Rattle.xt_protocol.specs.Forgetting.{versions_if, versions_under};
@@ -325,7 +325,8 @@ impl Lead {
     }
 
     /// A message to the primary, in this turn: `own` and `held` are the head and the held versions of its own replica, and `searches`
-    /// those for what its peers lack of that head. Where memory is out or a body can't be read, the primary is idle.
+    /// those for what its peers lack of that head. Where memory is out or a body can't be read, the primary is as it was if the
+    /// message is an acknowledgement or reports a staged body, and idle if it is any other one.
     pub fn take<B: Bodies>(
         &mut self,
         turn: &Turn<'_>,
@@ -349,8 +350,9 @@ impl Lead {
         ensures led { IfOk result (λ led. (records : List Record) → B.agrees bodies.new records →
             led ≡ (hears (ground (place_of self.old) records own.now held.now)
             self.old.primary from payload.now).turned) }
-        ensures idle { OnErr result (self.new ≡
-            record self.old { primary = rows.idle self.old.primary }) }
+        ensures idle { OnErr result (is_light_led payload.now ≡ false →
+            self.new ≡ record self.old { primary = rows.idle self.old.primary }) }
+        ensures same { OnErr result (is_light_led payload.now ≡ true → self.new ≡ self.old) }
         ensures sound { AreSound own.now.versions (peers_under self.new.primary.tenure)
             searches.new }
         ensures reads { ReadsOnly B.agrees B.fault_count bodies.old bodies.new (fault_of result) }

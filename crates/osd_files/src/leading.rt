@@ -1,4 +1,4 @@
-ghost use Rattle.std.specs.Prelude.{◌≡◌, ◌<◌, ◌^◌, List, IfOk, is_some};
+ghost use Rattle.std.specs.Prelude.{◌≡◌, ◌<◌, ◌^◌, List, IfOk, OnErr, is_some, true};
 ghost use Rattle.std.specs.List.{AllByRecursion};
 ghost use Rattle.xt_messages.specs.declared.record.Record.{Record};
 ghost use Rattle.xt_protocol.specs.SeenBodies.{body_by};
@@ -10,22 +10,26 @@ ghost use Rattle.xt_protocol.specs.FileLeases.{leads_to};
 ghost use Rattle.xt_protocol.specs.FileStates.{ground_of};
 ghost use Rattle.xt_protocol.specs.FileSteps as rows;
 ghost use Rattle.xt_protocol.specs.PrimaryRows.{hears};
+ghost use Rattle.replica_primary.specs.Moves.{is_light_led};
 ghost use Rattle.osd_files.specs.Answers.{HasTurn};
+ghost use Rattle.osd_files.specs.Light.{asks_rest};
 ghost use Rattle.osd_files.specs.Rows.{IsRowBy};
 ghost use Rattle.osd_files.specs.Views.{shown};
 
 use crate::joining::join_rest;
 use crate::leases::stay_in_range;
+use crate::light::asks_rest;
 use crate::noting::noted;
 use crate::parts::Parts;
-use crate::serving::asks_follow;
+use crate::serving::{asks_follow, asks_settle};
 use flease::FileLease;
 use object_versions::{Bodies, StepErr};
 use xt_base::NodeId;
 use xt_messages::Payload;
 use xt_protocol::{Turned, quiet};
 
-/// The primary hears a message in its turn, and its own replica notes what it records.
+/// The primary hears a message in its turn, and its own replica notes what it records. After an error the file is as it was if the
+/// message is an acknowledgement or reports a staged body, of which nothing is recorded.
 fn primary_led<B: Bodies>(
     file: &mut Parts,
     bodies: &mut B,
@@ -39,6 +43,8 @@ fn primary_led<B: Bodies>(
     ensures row { IfOk result (λ turned. (records : List Record) → B.agrees bodies.new records →
         IsRowBy (λ site s. leads_to s (hears (ground_of site s) s.primary from content.now)) now
         (body_by records) (shown file.old) (shown file.new) turned) }
+    ensures same { OnErr result (is_light_led content.now ≡ true →
+        shown file.new ≡ shown file.old) }
     ensures reads { ReadsOnly B.agrees B.fault_count bodies.old bodies.new (fault_of result) }
 {
     stay_in_range(file.awake.node());
@@ -70,7 +76,8 @@ fn has_turn(lease: &FileLease, now: u64) -> bool
     lease.turn(now).is_some()
 }
 
-/// A message to the primary: it counts only while the lease is held. The primary hears it in its turn, and the asks follow.
+/// A message to the primary: it counts only while the lease is held. The primary hears it in its turn, and the asks follow. After an
+/// error the file is as it was if the message is an acknowledgement or reports a staged body, and the asks rested.
 pub fn primary_hears<B: Bodies>(
     file: &mut Parts,
     bodies: &mut B,
@@ -85,6 +92,8 @@ pub fn primary_hears<B: Bodies>(
     ensures row { IfOk result (λ turned. (records : List Record) → B.agrees bodies.new records →
         IsRowBy (λ site s. rows.primary_hears site s s.lease from content.now) now (body_by records)
         (shown file.old) (shown file.new) turned) }
+    ensures same { OnErr result (is_light_led content.now ≡ true →
+        asks_rest (shown file.old).state ≡ true → shown file.new ≡ shown file.old) }
     ensures reads { ReadsOnly B.agrees B.fault_count bodies.old bodies.new (fault_of result) }
 {
     if !has_turn(&file.lease, now) {
@@ -92,6 +101,10 @@ pub fn primary_hears<B: Bodies>(
     }
     let was_ready = file.lead.is_ready();
     let led = primary_led(file, bodies, now, from, content)?;
+    if asks_rest(file) {
+        asks_settle(file, was_ready);
+        return Ok(led);
+    }
     let followed = asks_follow(file, bodies, now, was_ready);
     join_rest(led, followed)
 }

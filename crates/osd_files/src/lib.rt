@@ -15,6 +15,7 @@ mod keeping;
 mod lead;
 mod leading;
 mod leases;
+mod light;
 mod noting;
 mod overdue;
 mod parts;

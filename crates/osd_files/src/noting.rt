@@ -1,4 +1,4 @@
-ghost use Rattle.std.specs.Prelude.{◌≡◌, List, Option, Some, if◌then◌else◌, IfOk, IfNone, IfSome, OnOk, OnErr};
+ghost use Rattle.std.specs.Prelude.{◌≡◌, List, Option, Some, true, is_some, if◌then◌else◌, IfOk, IfNone, IfSome, OnOk, OnErr};
 ghost use Rattle.xt_messages.specs.declared.file.Location.{Location};
 ghost use Rattle.peer_searches.specs.Sound.{AreSound};
 ghost use Rattle.replica_state.specs.Kept.{IsNotable};
@@ -90,6 +90,7 @@ fn note(
     ensures file { replica.new.file ≡ replica.old.file }
     ensures none { IfNone rec.now (replica.new ≡ replica.old) }
     ensures same { OnErr result ((replica.new ≡ replica.old) × (staged.new ≡ staged.old)) }
+    ensures some { OnErr result (is_some rec.now ≡ true) }
 {
     match rec.get() {
         Some(rec) => note_record(replica, staged, rec),
@@ -98,7 +99,8 @@ fn note(
 }
 
 /// What a step gave, once the own replica has taken what it recorded, and the staged bodies and the searches for what peers lack
-/// follow it. Where memory runs out, the replica and what was staged are as they were, and the searches may have begun anew.
+/// follow it. Where memory runs out, the replica and what was staged are as they were, and the searches may have begun anew. Where
+/// nothing was recorded it doesn't fail.
 pub fn noted(
     replica: &mut Replica,
     staged: &mut HeldSet,
@@ -113,6 +115,7 @@ pub fn noted(
         kept_after (record replica.old { location = location }) turned.rec) }
     ensures file { replica.new.file ≡ replica.old.file }
     ensures same { OnErr result ((replica.new ≡ replica.old) × (staged.new ≡ staged.old)) }
+    ensures some { OnErr result (is_some turned.rec ≡ true) }
     ensures sound { (peers : List Peer) →
         AreSound replica.old.head.versions peers searches.old →
         AreSound replica.new.head.versions peers searches.new }

@@ -1,4 +1,4 @@
-ghost use Rattle.std.specs.Prelude.{◌≡◌, ◌<◌, ◌^◌, ◌&&◌, List, false, not, IfOk, is_some};
+ghost use Rattle.std.specs.Prelude.{◌≡◌, ◌<◌, ◌^◌, ◌&&◌, List, false, true, not, IfOk, is_some};
 ghost use Rattle.std.specs.List.{AllByRecursion};
 ghost use Rattle.xt_messages.specs.Limits.{FitsOp};
 ghost use Rattle.xt_messages.specs.declared.record.Record.{Record};
@@ -7,7 +7,9 @@ ghost use Rattle.osd_invariants.specs.Sound.{IsStored};
 ghost use Rattle.osd_invariants.specs.OpenAsks.{IsWithinLimits};
 ghost use Rattle.xt_protocol.specs.Asks.{is_read};
 ghost use Rattle.xt_protocol.specs.Primaries.{is_ready};
+ghost use Rattle.xt_protocol.specs.Turns.{quiet};
 ghost use Rattle.osd_files.specs.Answers.{HasTurn};
+ghost use Rattle.osd_files.specs.Light.{asks_rest};
 ghost use Rattle.osd_files.specs.Serves.{AsksFollow, AsksWait, ServesAll, ServesNext, ServesOne};
 ghost use Rattle.osd_files.specs.Views.{shown};
 
@@ -131,6 +133,17 @@ fn becomes_ready(lead: &Lead, was_ready: bool) -> bool
     ensures { result ≡ (is_ready lead.now.primary.tenure && not was_ready) }
 {
     lead.is_ready() && !was_ready
+}
+
+/// The same where the asks rest: that of an update that was committed is gone. It takes no memory.
+pub fn asks_settle(file: &mut Parts, was_ready: bool)
+    requires { asks_rest (shown file.old).state ≡ true }
+    ensures { (records : List Record) →
+        AsksFollow was_ready records (shown file.old) (shown file.new) quiet }
+{
+    if becomes_ready(&file.lead, was_ready) {
+        file.asks.forget_issued();
+    }
 }
 
 /// What a row of the primary means for the asks, where it was ready before or wasn't: when it has become ready they are served.

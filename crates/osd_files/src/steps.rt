@@ -1,4 +1,4 @@
-ghost use Rattle.std.specs.Prelude.{◌≡◌, ◌<◌, ◌^◌, List, Bool, IfOk, OnErr};
+ghost use Rattle.std.specs.Prelude.{◌≡◌, ◌<◌, ◌^◌, List, Bool, IfOk, OnErr, true};
 ghost use Rattle.xt_messages.specs.Limits.{FitsCapability, FitsOp, FitsOpId, FitsPayload};
 ghost use Rattle.xt_messages.specs.declared.file.Capability.{Capability};
 ghost use Rattle.xt_messages.specs.declared.record.Record.{Record};
@@ -7,6 +7,7 @@ ghost use Rattle.flease.specs.Moves.{IsSettled};
 ghost use Rattle.object_versions.specs.KeptBodies.{fault_of, ReadsOnly};
 ghost use Rattle.osd_invariants.specs.Sound.{IsStored};
 ghost use Rattle.xt_protocol.specs.FileSteps as rows;
+ghost use Rattle.osd_files.specs.Light.{is_light};
 ghost use Rattle.osd_files.specs.Rows.{IsStep};
 ghost use Rattle.osd_files.specs.Views.{shown, site_at};
 ghost use Rattle.osd_files.specs.Whole.{IsRowOn, IsWhole};
@@ -57,6 +58,7 @@ fn ask_comes<B: Bodies>(
 }
 
 /// A message that concerns the file, when nothing is overdue. `sealed` says whether the tag of an ask's capability is the key's.
+/// After an error the file is as it was if the message is one that it takes in place.
 fn message_comes<B: Bodies>(
     file: &mut Parts,
     bodies: &mut B,
@@ -72,6 +74,8 @@ fn message_comes<B: Bodies>(
     ensures row { IfOk result (λ turned. (records : List Record) → B.agrees bodies.new records →
         IsRowOn (λ site s. rows.message_comes site s from content.now) content.now sealed now
         (body_by records) (shown file.old) (shown file.new) turned) }
+    ensures same { OnErr result (is_light (shown file.old) content.now ≡ true →
+        shown file.new ≡ shown file.old) }
     ensures reads { ReadsOnly B.agrees B.fault_count bodies.old bodies.new (fault_of result) }
 {
     match content {

@@ -1,4 +1,4 @@
-use Rattle.std.proofs.Common.{◌≡◌, ◌∙◌, ap, refl, subst, sym, List, Bool, true, None}
+use Rattle.std.proofs.Common.{◌≡◌, ◌∙◌, ap, refl, subst, sym, List, Bool, false, true, None}
 use Rattle.std.specs.List.{AllByRecursion}
 use Rattle.xt_messages.specs.declared.file.Capability.{Capability}
 use Rattle.xt_messages.specs.declared.record.Record.{Record}
@@ -8,16 +8,19 @@ use Rattle.xt_protocol.specs.SeenBodies.{body_by}
 use Rattle.flease.specs.Moves.{turn_of}
 use Rattle.xt_protocol.specs.FileStates.{FileStep}
 use Rattle.xt_protocol.specs.FileSteps.{primary_hears}
-use Rattle.xt_protocol.specs.Turns.{joined}
+use Rattle.xt_protocol.specs.Turns.{joined, quiet}
 use Rattle.xt_protocol.specs.declared.states.Asks.{Asks}
 use Rattle.osd_invariants.specs.OpenAsks.{IsWithinLimits}
 use Rattle.osd_invariants.specs.Sound.{IsStored}
 use Rattle.osd_files.specs.Answers.{HasTurn}
+use Rattle.osd_files.specs.Light.{asks_rest}
 use Rattle.osd_files.specs.Rows.{IsRowBy}
 use Rattle.osd_files.specs.Serves.{AsksFollow}
 use Rattle.osd_files.specs.Views.{shown, site_at}
 use Rattle.osd_files.proofs.Followed.{followed_row, same_asks, same_lease, same_list, unheard}
-use Rattle.osd_files.proofs.Rows.{reads_behind, rest_ok}
+use Rattle.osd_files.proofs.Lightly.{still_rest}
+use Rattle.osd_files.proofs.Rows.{on_err, reads_behind, rest_ok}
+use Rattle.osd_files.proofs.Waiting.{joined_quiet}
 use Rattle.osd_files.proofs.Wakes.{held_by_turn, none_of, stored_by_turn}
 use Rattle.osd_files.proofs.leading.primary_hears.Goals as goal
 
@@ -97,3 +100,26 @@ returns-then-not-has_turn-clause-row g c =
           unheard site old.state c.args.from c.args.content.now none c.requires.settled
           ∙ ap (λ (t : Turned). let made : FileStep = record { state = old.state; turned = t } in made) (sym c.quiet.ensures);
     }
+
+pub returns-then-asks_rest-clause-row : goal.returns-then-asks_rest-clause-row
+returns-then-asks_rest-clause-row g c =
+    λ records agree sealed.
+    let f = c.args.file.now in
+    let by = held_by_turn f.lease c.args.now (sym c.has_turn.ensures ∙ c.if-not-has_turn.false) in
+    let mid = shown c.primary_led.new.file in
+    let new = shown c.asks_settle.new.file in
+    let led = c.in_ok-led.led in
+    let follow = subst (λ (b : Bool). AsksFollow b records mid new quiet) c.is_ready-was_ready.ensures (c.asks_settle.ensures records) in
+    followed_row f.awake c.args.now sealed records (shown f).state c.args.from c.args.content.now by.0 mid new led quiet led by.1 (c.in_ok-led.ensures.row records agree sealed) follow (sym (joined_quiet led))
+
+pub returns-clause-same : goal.returns-clause-same
+returns-clause-same g c =
+    let f = c.args.file.now in
+    let mid = shown c.primary_led.new.file in
+    let one = g.B.Bodies.some c.primary_led.new.bodies in
+    let row = c.in_ok-led.ensures.row one.0 one.1 no_seal in
+    on_err c.join_rest.result _
+    (λ light rest.
+    let is = still_rest f.awake c.args.now no_seal one.0 (shown f).state c.args.from c.args.content.now mid c.in_ok-led.led row light rest in
+    let not : asks_rest mid.state ≡ false = sym c.asks_rest.ensures ∙ c.if-asks_rest.false in
+    absurd (let clash : true ≡ false = sym is ∙ not in cc))

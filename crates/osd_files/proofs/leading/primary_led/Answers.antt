@@ -12,7 +12,9 @@ use Rattle.replica_primary.specs.Written.{ground}
 use Rattle.osd_files.specs.Leads.{LeadView, place_of}
 use Rattle.osd_files.specs.Views.{shown}
 use Rattle.osd_files.proofs.Followed.{led_row}
+use Rattle.osd_files.proofs.Lightly.{light_none, recorded}
 use Rattle.osd_files.proofs.Noted.{heard_notable}
+use Rattle.osd_files.proofs.Rows.{on_err}
 use Rattle.osd_files.proofs.leading.primary_led.Goals as goal
 
 pub noted-requires : goal.noted-requires
@@ -57,3 +59,12 @@ pub invariant_of-file-2-clause-file : goal.invariant_of-file-2-clause-file
 invariant_of-file-2-clause-file g c =
     let one = g.B.Bodies.some c.take.new.bodies in
     ap (λ (lead : LeadView). lead.file) (c.in_ok-turned.ensures.state one.0 one.1) ∙ c.args.file.now.file ∙ sym c.noted.ensures.file
+
+pub returns-in_err-noted-clause-same : goal.returns-in_err-noted-clause-same
+returns-in_err-noted-clause-same g c =
+    let f = c.args.file.now in
+    let lead = f.lead in
+    let one = g.B.Bodies.some c.take.new.bodies in
+    let by = ground (place_of lead) one.0 c.head.result.now c.held.result.now in
+    on_err c.from_residual-in_err-noted.result _
+    (λ light. absurd (recorded c.in_ok-turned.turned.rec c.in_err-noted.ensures.some (ap (λ (t : Turned). t.rec) (c.in_ok-turned.ensures.led one.0 one.1) ∙ light_none by lead.primary c.args.from c.args.content.now light)))

@@ -5,6 +5,7 @@ use Rattle.xt_protocol.specs.declared.states.Place.{Place}
 use Rattle.xt_protocol.specs.declared.states.PrimaryState.{PrimaryState}
 use Rattle.xt_protocol.specs.Primaries.{Ground}
 use Rattle.xt_protocol.specs.PrimaryRows.{hears}
+use Rattle.replica_primary.specs.Moves.{is_light_led}
 use Rattle.replica_primary.specs.PrimaryViews.{PrimaryView}
 use Rattle.replica_primary.specs.Written.{ground}
 use Rattle.osd_files.specs.Counts.{IsCountedIn}
@@ -61,8 +62,9 @@ invariant_of-self g c =
     let place : Place = record { node = inside.node; file = inside.file; stripe = l.location.stripe } in
     let agrees = g.B.Bodies.agrees c.take.new.bodies in
     let one = g.B.Bodies.some c.take.new.bodies in
+    let light = is_light_led c.args.payload.now in
     let P : List Record → Turned → Type 0 = λ records led. c.take.new.self ≡ record l.primary { state = heard records } in
     let state = for_one agrees P c.take.result one c.take.ensures.state in (
-      place_taken l.primary c.take.new.self (heard one.0) place c.take.result stands state c.take.ensures.idle,
-      take_counted l.location.members (by one.0) l.primary c.take.new.self c.args.from c.args.payload.now c.take.result counted state c.take.ensures.idle,
+      place_taken l.primary c.take.new.self (heard one.0) place light c.take.result stands state c.take.ensures.idle c.take.ensures.same,
+      take_counted l.location.members (by one.0) l.primary c.take.new.self c.args.from c.args.payload.now light c.take.result counted state c.take.ensures.idle c.take.ensures.same,
     )
