@@ -135,7 +135,8 @@ fn becomes_ready(lead: &Lead, was_ready: bool) -> bool
     lead.is_ready() && !was_ready
 }
 
-/// The same where the asks rest: that of an update that was committed is gone. It takes no memory.
+/// What a row of the primary means for asks that rest: when it has become ready, that of the update that was committed is gone. It
+/// takes no memory.
 pub fn asks_settle(file: &mut Parts, was_ready: bool)
     requires { asks_rest (shown file.old).state ≡ true }
     ensures { (records : List Record) →
