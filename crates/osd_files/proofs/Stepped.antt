@@ -21,7 +21,7 @@ use Rattle.xt_protocol.specs.FileStates.{FileState, Site, FileStep, and_then}
 use Rattle.xt_protocol.specs.FileLeases.{answer_comes}
 use Rattle.xt_protocol.specs.FileSteps.{message_comes, primary_hears, replica_acts, step_of_file, wake_of_file}
 use Rattle.xt_protocol.specs.Overdue.{expired}
-use Rattle.xt_protocol.specs.Turns.{joined}
+use Rattle.xt_protocol.specs.Turns.{joined, quiet}
 use Rattle.osd_invariants.specs.Sound.{IsSound}
 use Rattle.osd_invariants.specs.OpenAsks.{AskIs, AsksAre, IsWithinLimits}
 use Rattle.osd_invariants.proofs.OpenAsks.{expired_are, step_are, wake_are}
@@ -87,6 +87,12 @@ step_row now test body from content old mid new overdue rest turned first second
           ∙ ap (behind_it overdue) (ap (λ (a : Awake). rows a mid.state) (sym first.here) ∙ second.step)
           ∙ ap (λ (t : Turned). let made : FileStep = record { state = new.state; turned = t } in made) (sym is);
     }
+
+-- the message alone, where nothing is overdue
+pub at_once : (now : ℕ) (test : Capability → Bool) (body : FileId → ℕ → Stamp → List ℕ) (from : NodeId) (content : Payload) (old new : FileView) (turned : Turned)
+    → IsStep expired (site_at old.awake now test body) old old quiet → IsStep (λ site s. message_comes site s from content) (site_at old.awake now test body) old new turned
+    → IsStep (λ site s. step_of_file site s from content) (site_at old.awake now test body) old new turned
+at_once now test body from content old new turned still row = step_row now test body from content old old new quiet turned turned still row refl
 
 -- a message that was recognized by its kind
 pub told_row : (content made : Payload) (site : Site) (from : NodeId) (old new : FileView) (turned : Turned) → content ≡ made

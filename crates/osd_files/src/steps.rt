@@ -18,7 +18,8 @@ use crate::hearing::{fetch_comes, replica_comes};
 use crate::joining::join_rest;
 use crate::leading::primary_hears;
 use crate::leases::{lease_comes, stay_in_range};
-use crate::overdue::expire;
+use crate::light::is_light;
+use crate::overdue::{expire, nothing_is_overdue};
 use crate::parts::Parts;
 use crate::striped::handle_striped;
 use object_versions::{Bodies, StepErr};
@@ -132,8 +133,8 @@ fn step_in_place<B: Bodies>(
     join_rest(overdue, rest)
 }
 
-/// The step of a file on a message that concerns it: what is overdue, and then the message. After an error the file is as it was.
-pub fn step_of_file<B: Bodies>(
+/// The same beside a copy, which takes the file's place again where that fails.
+fn step_beside_copy<B: Bodies>(
     file: &mut Parts,
     bodies: &mut B,
     now: u64,
@@ -153,4 +154,29 @@ pub fn step_of_file<B: Bodies>(
     let before = copy_of(file)?;
     let given = step_in_place(file, bodies, now, sealed, from, content);
     kept_or_back(file, before, given)
+}
+
+/// The step of a file on a message that concerns it: what is overdue, and then the message. After an error the file is as it was.
+/// Where nothing is overdue, the frequent messages need no copy for that.
+pub fn step_of_file<B: Bodies>(
+    file: &mut Parts,
+    bodies: &mut B,
+    now: u64,
+    sealed: bool,
+    from: NodeId,
+    content: &Payload,
+) -> Result<Turned, StepErr>
+    requires clock { now < 2 ^ 62 }
+    requires fits { FitsPayload content.now }
+    requires whole { IsWhole (shown file.old) }
+    ensures row { IfOk result (λ turned. (records : List Record) → B.agrees bodies.new records →
+        IsRowOn (λ site s. rows.step_of_file site s from content.now) content.now sealed now
+        (body_by records) (shown file.old) (shown file.new) turned) }
+    ensures same { OnErr result (shown file.new ≡ shown file.old) }
+    ensures reads { ReadsOnly B.agrees B.fault_count bodies.old bodies.new (fault_of result) }
+{
+    if nothing_is_overdue(file, now) && is_light(file, content) {
+        return message_comes(file, bodies, now, sealed, from, content);
+    }
+    step_beside_copy(file, bodies, now, sealed, from, content)
 }
