@@ -4,7 +4,7 @@ use Rattle.std.specs.List.{AllByRecursion}
 use Rattle.std.specs.List.Sorted.{IsStrictlySortedBy}
 use Rattle.std.specs.Ordering.{match_ordering, ordering_reverse}
 use Rattle.std.specs.Map.{keys_of, lookup, set_value}
-use Rattle.std.specs.BTreeMap.{insert_entry, is_at}
+use Rattle.std.specs.BTreeMap.{BTreeMap, insert_entry, is_at}
 use Rattle.std.proofs.lemmas.Map.Keys.{sorted_head, sorted_tail}
 use Rattle.xt_base.specs.declared.ids.FileId.{FileId}
 use Rattle.xt_protocol.specs.FileIds.{is_file, is_before, file_cmp}
@@ -16,7 +16,7 @@ use Rattle.xt_protocol.specs.OsdSteps.{file_at, with_file}
 use Rattle.osd_core.specs.declared.slot.Slot.{Slot}
 use Rattle.osd_core.specs.declared.slot.Slot.TheVariants as slot
 use Rattle.osd_core.specs.FileSlots.{id_of, state_of}
-use Rattle.osd_core.specs.Slots.{Slots, states_of}
+use Rattle.osd_core.specs.Slots.{Slots, states_of, AreSlots, IsSlotOf}
 
 -- ---- the order of files
 
@@ -148,16 +148,28 @@ put_found (e ∷ es) file p q up found =
     go of_rest Equal is = refl
     go of_rest Greater is = of_rest (later_found Greater is)
 
--- the slot that was made for a file is changed
-pub put_made : (es : Slots) (file : FileId) (s q : Slot) → set_value (is_at (file_cmp file)) (insert_entry file_cmp es file s) q ≡ insert_entry file_cmp es file q
-put_made [] file s q = ap (λ t. let made : Slots = cond t ((file, q) ∷ []) ((file, s) ∷ []) in made) (own_file file)
-put_made (e ∷ es) file s q = go (put_made es file s q) (file_cmp file e.0) refl
+-- a slot that is put where it is
+pub put_same : (file : FileId) (es : Slots) (s : Slot) → slot_at file es ≡ Some s → set_value (is_at (file_cmp file)) es s ≡ es
+put_same file [] s found = refl
+put_same file (e ∷ es) s found = go (λ later. put_same file es s later) (is_eq (file_cmp file e.0)) refl
   where
-    go : set_value (is_at (file_cmp file)) (insert_entry file_cmp es file s) q ≡ insert_entry file_cmp es file q → (o : Ordering) → file_cmp file e.0 ≡ o
-        → set_value (is_at (file_cmp file)) (match_ordering o ((file, s) ∷ e ∷ es) ((e.0, s) ∷ es) (e ∷ insert_entry file_cmp es file s)) q
-        ≡ match_ordering o ((file, q) ∷ e ∷ es) ((e.0, q) ∷ es) (e ∷ insert_entry file_cmp es file q)
-    go later Less is = ap (λ t. let made : Slots = cond t ((file, q) ∷ e ∷ es) ((file, s) ∷ set_value (is_at (file_cmp file)) (e ∷ es) q) in made) (own_file file)
-    go later Equal is = ap (λ o. let made : Slots = cond (is_eq o) ((e.0, q) ∷ es) ((e.0, s) ∷ set_value (is_at (file_cmp file)) es q) in made) is
-    go later Greater is =
-        ap (λ o. let made : Slots = cond (is_eq o) ((e.0, q) ∷ insert_entry file_cmp es file s) (e ∷ set_value (is_at (file_cmp file)) (insert_entry file_cmp es file s) q) in made) is
-        ∙ ap (λ (rest : Slots). e ∷ rest) later
+    go : (slot_at file es ≡ Some s → set_value (is_at (file_cmp file)) es s ≡ es) → (t : Bool) → is_eq (file_cmp file e.0) ≡ t → set_value (is_at (file_cmp file)) (e ∷ es) s ≡ e ∷ es
+    go of_rest true is =
+        let own : e.1 ≡ s = (let both : Some e.1 ≡ Some s = sym (looks file e es true is) ∙ found in cc) in
+        ap (λ t. let made : Slots = cond t ((e.0, s) ∷ es) (e ∷ set_value (is_at (file_cmp file)) es s) in made) is
+        ∙ ap (λ (x : Slot). let made : Slots = (e.0, x) ∷ es in made) (sym own)
+    go of_rest false is =
+        ap (λ t. let made : Slots = cond t ((e.0, s) ∷ es) (e ∷ set_value (is_at (file_cmp file)) es s) in made) is
+        ∙ ap (λ (rest : Slots). e ∷ rest) (of_rest (sym (looks file e es false is) ∙ found))
+
+-- each slot is one of its file still, once one was put
+pub slot_put : (awake : Awake) (busy : FileId → Bool) (file : FileId) (s : Slot) (old new : BTreeMap FileId Slot) → AreSlots awake busy old
+    → ((f : FileId) → slot_at f new.entries ≡ cond (is_eq (file_cmp file f)) (Some s) (slot_at f old.entries)) → IsSlotOf awake busy file s
+    → (f : FileId) (t : Slot) → slot_at f new.entries ≡ Some t → IsSlotOf awake busy f t
+slot_put awake busy file s old new are updates one f t found = go (is_eq (file_cmp file f)) refl
+  where
+    go : (same : Bool) → is_eq (file_cmp file f) ≡ same → IsSlotOf awake busy f t
+    go true is =
+        let its : s ≡ t = (let both : Some s ≡ Some t = sym (updates f ∙ ap (λ c. cond c (Some s) (slot_at f old.entries)) is) ∙ found in cc) in
+        subst (IsSlotOf awake busy f) its (subst (λ x. IsSlotOf awake busy x s) (same_file file f is) one)
+    go false is = are.each f t (sym (updates f ∙ ap (λ c. cond c (Some s) (slot_at f old.entries)) is) ∙ found)

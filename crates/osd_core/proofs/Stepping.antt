@@ -1,8 +1,11 @@
 -- the step of an OSD, from the steps of its slots
-use Rattle.std.proofs.Common.{◌≡◌, ℕ, Bool, true, false, cond, max, List, [], ◌∷◌, Option, Some, None, Result, Ok, Err, IfOk, is_eq, refl, ap, sym, subst, ◌∙◌, arith, true≢false}
+use Rattle.std.proofs.Common.{◌≡◌, ℕ, Bool, true, false, cond, max, List, [], ◌∷◌, Option, Some, None, Result, IfOk, OnErr, is_eq, refl, ap, sym, subst, ◌∙◌, true≢false}
 use Rattle.std.specs.Prelude.{IsSome}
-use Rattle.std.specs.Map.{set_value}
-use Rattle.std.specs.BTreeMap.{BTreeMap, WritesThrough, is_at}
+use Rattle.std.specs.List.Sorted.{IsStrictlySortedBy}
+use Rattle.std.specs.Map.{keys_of}
+use Rattle.std.specs.BTreeMap.{BTreeMap, WritesThrough}
+use Rattle.std.specs.BTreeSet as busy_set
+use Rattle.std.specs.BTreeSet.{BTreeSet}
 use Rattle.xt_base.specs.declared.ids.FileId.{FileId}
 use Rattle.xt_base.specs.declared.ids.NodeId.{NodeId}
 use Rattle.xt_base.specs.declared.ids.Stamp.{Stamp}
@@ -23,98 +26,17 @@ use Rattle.xt_protocol.specs.Overdue.{expired}
 use Rattle.xt_protocol.specs.FileSteps.{step_of_file, wake_of_file}
 use Rattle.xt_protocol.specs.OsdSteps.{Outside, OsdState, OsdStep, FilesStep, file_at, with_file, each_file, asks_dir, file_concerned, handle_message, woken, handle_event, handled_awake, step_of_osd}
 use Rattle.osd_invariants.proofs.Kept.{step_follows}
-use Rattle.osd_files.specs.Views.{site_at}
+use Rattle.osd_files.specs.Views.{FileView, site_at}
 use Rattle.osd_files.specs.declared.waking.Woken.{Woken}
-use Rattle.osd_files.specs.Whole.{RowRises, IsRowOn, IsSealedBy}
+use Rattle.osd_files.specs.Whole.{IsRowOn, IsSealedBy}
 use Rattle.osd_core.specs.declared.slot.Slot.{Slot}
 use Rattle.osd_core.specs.declared.slot.Slot.TheVariants as slot
 use Rattle.osd_core.specs.declared.met.MetFiles.{MetFiles}
 use Rattle.osd_core.specs.FileSlots.{id_of, state_of, view_of, IsSoundSlot}
-use Rattle.osd_core.specs.Slots.{Slots, awake_of, is_among, states_of, AreMet, IsMade, IsMet, IsSlotOf, WakesSlots, StepsFiles}
-use Rattle.osd_core.proofs.Standing.{AreOwn, state_of-file, state_in, slot_at, same_file, each_slot, file_is, file_put, put_found, put_made}
+use Rattle.osd_core.specs.Slots.{Slots, awake_of, is_among, states_of, AreMet, AreSlots, EndsAll, GivesAll, PutsNew, PutsSlot, SameFiles, StepsFiles}
+use Rattle.osd_core.proofs.Standing.{AreOwn, state_of-file, state_in, slot_at, slot_put, each_slot, file_is, file_put, put_found, put_same}
+use Rattle.osd_core.proofs.Steps.{if_ok, on_err}
 use Rattle.osd_core.proofs.Waking.{kept_file}
-
--- ---- the slot that a message finds
-
--- what a file begins as rises
-new_row_rises : (file : FileId) → RowRises (new_row file)
-new_row_rises file =
-    record {
-      head =
-          record {
-            promise = record { place = omega arith; primary = omega arith };
-            place = record { tenure = record { place = omega arith; primary = omega arith }; writes = omega arith };
-            operation = record { who = omega arith; operation = omega arith };
-            after = record { truncation = omega arith; bytes = omega arith };
-            objects = record { few = omega arith; each = tt; rising = refl };
-            clients = record { few = omega arith; each = tt; rising = refl };
-            kept = refl;
-          };
-      list = tt;
-    }
-
--- The slot of a file that was met: it has the file's state, and what is put there is put in the file's place.
-pub record IsFound (awake : Awake) (file : FileId) (old made : MetFiles) (p : Slot) : Type 0 where
-  pub own : id_of p ≡ file
-  pub sound : IsSoundSlot awake p
-  pub state : state_of awake p ≡ file_at awake (states_of awake old.slots.entries) file
-  pub put : (q : Slot) → id_of q ≡ file → states_of awake (set_value (is_at (file_cmp file)) made.slots.entries q) ≡ with_file (states_of awake old.slots.entries) (state_of awake q)
-  pub others : (f : FileId) (s : Slot) → is_eq (file_cmp file f) ≡ false → slot_at f made.slots.entries ≡ Some s → slot_at f old.slots.entries ≡ Some s
-
-module _ (awake : Awake) (file : FileId) (old made : MetFiles) (are : AreMet awake old) where
-  own_slots : AreOwn old.slots.entries
-  own_slots = each_slot (λ f s. id_of s ≡ f) old.slots.entries are.rising (λ f s found. (are.each f s found).own)
-
-  -- a file that had a slot
-  had : (s p : Slot) → slot_at file old.slots.entries ≡ Some s → made.slots ≡ old.slots → slot_at file made.slots.entries ≡ Some p → IsFound awake file old made p
-  had s p there same found =
-      let entries : made.slots.entries ≡ old.slots.entries = ap (λ (m : BTreeMap FileId Slot). m.entries) same in
-      let its : slot_at file old.slots.entries ≡ Some p = sym (ap (slot_at file) entries) ∙ found in
-      let one = are.each file p its in
-      record {
-        own = one.own;
-        sound = one.sound;
-        state = sym (file_is awake old.slots.entries file own_slots ∙ ap (state_in awake file) its);
-        put = λ q own.
-            ap (λ (es : Slots). states_of awake (set_value (is_at (file_cmp file)) es q)) entries
-            ∙ ap (states_of awake) (put_found old.slots.entries file p q are.rising its)
-            ∙ sym (file_put awake old.slots.entries file q own_slots own);
-        others = λ f t differ at. sym (ap (slot_at f) entries) ∙ at;
-      }
-
-  -- a file that had none
-  had_none : (p : Slot) → slot_at file old.slots.entries ≡ None → IsMade file old.slots made.slots None → slot_at file made.slots.entries ≡ Some p → IsFound awake file old made p
-  had_none p missing making found =
-      let row = slot.Row (new_row file) in
-      let its : row ≡ p = (let both : Some row ≡ Some p = sym making.1.1 ∙ found in cc) in
-      let new : IsFound awake file old made row =
-      record {
-        own = refl;
-        sound = new_row_rises file;
-        state = sym (file_is awake old.slots.entries file own_slots ∙ ap (state_in awake file) missing);
-        put = λ q own.
-            ap (λ (es : Slots). states_of awake (set_value (is_at (file_cmp file)) es q)) making.0
-            ∙ ap (states_of awake) (put_made old.slots.entries file row q)
-            ∙ sym (file_put awake old.slots.entries file q own_slots own);
-        others = λ f t differ at.
-            sym (making.1.0 f ∙ ap (λ b. cond b (Some row) (slot_at f old.slots.entries)) differ) ∙ at;
-      } in
-      subst (IsFound awake file old made) its new
-
-  pub found_slot : IsMet file old made → (p : Slot) → slot_at file made.slots.entries ≡ Some p → IsFound awake file old made p
-  found_slot met p found = go (slot_at file old.slots.entries) refl met.made
-    where
-      go : (o : Option Slot) → slot_at file old.slots.entries ≡ o → IsMade file old.slots made.slots o → IsFound awake file old made p
-      go None missing making = had_none p missing making found
-      go (Some s) there same = had s p there same found
-
--- a file that was met has a slot
-pub never_missing : (file : FileId) (old made : MetFiles) → IsMet file old made → slot_at file made.slots.entries ≡ None → ⊥
-never_missing file old made met none = go (slot_at file old.slots.entries) refl met.made
-  where
-    go : (o : Option Slot) → slot_at file old.slots.entries ≡ o → IsMade file old.slots made.slots o → ⊥
-    go None missing making = absurd (let both = sym none ∙ making.1.1 in cc)
-    go (Some s) there same = absurd (let both = sym none ∙ ap (λ (m : BTreeMap FileId Slot). slot_at file m.entries) same ∙ there in cc)
 
 -- ---- a message at the slots
 
@@ -123,78 +45,152 @@ step_keeps : (site : Site) (s : FileState) (from : NodeId) (content : Payload) �
 step_keeps site s from content =
     ap (λ (row : FileRow). row.file) (step_follows site s from content) ∙ kept_file s.kept (step_of_file site s from content).turned.rec
 
-pub met_take : (site : Site) (awake : Awake) (msg : Msg) (file : FileId) (old made : MetFiles) (new : BTreeMap FileId Slot) (p q : Slot) (turned : Turned) → AreMet awake old → IsMet file old made
-    → slot_at file made.slots.entries ≡ Some p → WritesThrough file_cmp (file_cmp file) made.slots q new → IsSoundSlot awake q
-    → step_of_file site (state_of awake p) msg.from msg.payload ≡ record { state = state_of awake q; turned = turned }
-    → StepsFiles (λ files. handle_message site awake files msg (Some file)) awake old (record { slots = new; busy = made.busy }) turned
-met_take site awake msg file old made new p q turned are met there writes sound step =
-    let files = states_of awake old.slots.entries in
-    let found = found_slot awake file old made are met p there in
-    let whole : step_of_file site (file_at awake files file) msg.from msg.payload ≡ record { state = state_of awake q; turned = turned } =
-    ap (λ s. step_of_file site s msg.from msg.payload) (sym found.state) ∙ step in
-    let its : id_of q ≡ file =
-    sym (state_of-file awake q) ∙ sym (ap (λ (one : FileStep). one.state.kept.file) step) ∙ step_keeps site (state_of awake p) msg.from msg.payload
-    ∙ state_of-file awake p ∙ found.own in
-    let after : FileStep → FilesStep = λ one. record { files = with_file files one.state; turned = one.turned } in
-    let updates = (writes.3 (subst (λ (o : Option Slot). IsSome o) (sym there) refl)).0 in
-    record {
-      met = record { rising = writes.4; each = λ f t at. each f t its updates at };
-      step = ap after whole ∙ ap (λ fs. let step : FilesStep = record { files = fs; turned = turned } in step) (sym (ap (states_of awake) writes.0 ∙ found.put q its));
-    }
-  where
-    busy : FileId → Bool
-    busy f = is_among made.busy.keys f
+-- no file became busy
+pub busy_same : (awake : Awake) (old : MetFiles) (busy : BTreeSet FileId) → AreMet awake old → busy.keys ≡ old.busy.keys → SameFiles awake old (record { slots = old.slots; busy = busy })
+busy_same awake old busy are same = record { met = subst (λ ks. AreSlots awake (is_among ks) old.slots) (sym same) are; files = refl }
 
-    each : (f : FileId) (t : Slot) → id_of q ≡ file → ((x : FileId) → slot_at x new.entries ≡ cond (is_eq (file_cmp file x)) (Some q) (slot_at x made.slots.entries)) → slot_at f new.entries ≡ Some t
-        → IsSlotOf awake (is_among made.busy.keys) f t
-    each f t its updates at = go (is_eq (file_cmp file f)) refl
-      where
-        go : (same : Bool) → is_eq (file_cmp file f) ≡ same → IsSlotOf awake (is_among made.busy.keys) f t
-        go true is =
-            let own : q ≡ t = (let both : Some q ≡ Some t = sym (updates f ∙ ap (λ b. cond b (Some q) (slot_at f made.slots.entries)) is) ∙ at in cc) in
-            let here : IsSlotOf awake (is_among made.busy.keys) file q = record { own = its; sound = sound; resting = λ idle. absurd (true≢false (sym met.busy.1 ∙ idle)) } in
-            subst (IsSlotOf awake (is_among made.busy.keys) f) own (subst (λ x. IsSlotOf awake (is_among made.busy.keys) x q) (same_file file f is) here)
-        go false is =
-            let there_before : slot_at f made.slots.entries ≡ Some t = sym (updates f ∙ ap (λ b. cond b (Some q) (slot_at f made.slots.entries)) is) ∙ at in
-            let was = are.each f t ((found_slot awake file old made are met p there).others f t is there_before) in
-            record {
-              own = was.own;
-              sound = was.sound;
-              resting = λ idle. was.resting (sym (met.busy.0 f ∙ ap (λ b. cond b true (is_among old.busy.keys f)) is) ∙ idle);
-            }
+module _ (awake : Awake) (file : FileId) (old : MetFiles) (busy : BTreeSet FileId) (are : AreMet awake old) (is_busy : busy_set.Updates file_cmp old.busy busy file true) where
+  abbrev with_slots : BTreeMap FileId Slot → MetFiles
+  with_slots slots = record { slots = slots; busy = busy }
 
-pub met_took : {E : Type 0} (agrees : List Record → Type 0) (now : ℕ) (sealed : Bool) (awake : Awake) (msg : Msg) (file : FileId) (old made : MetFiles) (new : BTreeMap FileId Slot) (p q : Slot) (r : Result Turned E)
-    → AreMet awake old → IsMet file old made → slot_at file made.slots.entries ≡ Some p → WritesThrough file_cmp (file_cmp file) made.slots q new → IfOk r (λ turned. IsSoundSlot awake q)
-    → IfOk r (λ turned. (records : List Record) → agrees records
-    → IsRowOn (λ site s. step_of_file site s msg.from msg.payload) msg.payload sealed now (body_by records) (view_of awake p) (view_of awake q) turned) → file_concerned msg.payload ≡ Some file
-    → IfOk r (λ turned. (records : List Record) → agrees records → (test : Capability → Bool) → IsSealedBy test msg.payload sealed
-    → StepsFiles (λ files. handle_message (site_at awake now test (body_by records)) awake files msg (file_concerned msg.payload)) awake old (record { slots = new; busy = made.busy }) turned)
-met_took agrees now sealed awake msg file old made new p q (Ok turned) are met there writes sound row concerns =
-    λ records agree test is_sealed.
-    let site = site_at awake now test (body_by records) in
-    let after : MetFiles = record { slots = new; busy = made.busy } in
-    subst (λ o. StepsFiles (λ files. handle_message site awake files msg o) awake old after turned) (sym concerns)
-    (met_take site awake msg file old made new p q turned are met there writes sound (row records agree test is_sealed).step)
-met_took agrees now sealed awake msg file old made new p q (Err e) are met there writes sound row concerns = sound
+  busier : (f : FileId) → is_among busy.keys f ≡ false → is_among old.busy.keys f ≡ false
+  busier f idle = test (is_eq (file_cmp file f)) (sym (is_busy.0 f) ∙ idle)
+    where
+      test : (t : Bool) → cond t true (is_among old.busy.keys f) ≡ false → is_among old.busy.keys f ≡ false
+      test true none = absurd cc
+      test false none = none
+
+  -- the file is busy
+  busy_met : AreMet awake (with_slots old.slots)
+  busy_met =
+      record {
+        rising = are.rising;
+        each = λ f s found. (let was = are.each f s found in record { own = was.own; sound = was.sound; resting = λ idle. was.resting (busier f idle) });
+      }
+
+  own_slots : AreOwn old.slots.entries
+  own_slots = each_slot (λ f s. id_of s ≡ f) old.slots.entries are.rising (λ f s found. (are.each f s found).own)
+
+  -- its slot was put
+  put_met : (q : Slot) (new : BTreeMap FileId Slot) → PutsSlot file q old.slots new → id_of q ≡ file → IsSoundSlot awake q → AreMet awake (with_slots new)
+  put_met q new put own sound =
+      record {
+        rising = put.rising;
+        each = slot_put awake (is_among busy.keys) file q old.slots new busy_met put.updates.0 (record { own = own; sound = sound; resting = λ idle. absurd (true≢false (sym is_busy.1 ∙ idle)) });
+      }
+
+  put_states : (q : Slot) (new : BTreeMap FileId Slot) → PutsSlot file q old.slots new → id_of q ≡ file → states_of awake new.entries ≡ with_file (states_of awake old.slots.entries) (state_of awake q)
+  put_states q new put own = ap (states_of awake) put.entries ∙ sym (file_put awake old.slots.entries file q own_slots own)
+
+  -- what it had was replaced
+  put_there : (p q : Slot) (new : BTreeMap FileId Slot) → slot_at file old.slots.entries ≡ Some p → WritesThrough file_cmp (file_cmp file) old.slots q new → PutsSlot file q old.slots new
+  put_there p q new there writes =
+      record {
+        entries = writes.0 ∙ put_found old.slots.entries file p q are.rising there;
+        updates = writes.3 (subst (λ (o : Option Slot). IsSome o) (sym there) refl);
+        rising = writes.4;
+      }
+
+  met_take : (site : Site) (msg : Msg) (p q : Slot) (new : BTreeMap FileId Slot) (turned : Turned) → id_of p ≡ file → state_of awake p ≡ file_at awake (states_of awake old.slots.entries) file
+      → PutsSlot file q old.slots new → IsSoundSlot awake q → step_of_file site (state_of awake p) msg.from msg.payload ≡ record { state = state_of awake q; turned = turned }
+      → StepsFiles (λ files. handle_message site awake files msg (Some file)) awake old (with_slots new) turned
+  met_take site msg p q new turned own state put sound step =
+      let files = states_of awake old.slots.entries in
+      let its : id_of q ≡ file =
+      sym (state_of-file awake q) ∙ sym (ap (λ (one : FileStep). one.state.kept.file) step) ∙ step_keeps site (state_of awake p) msg.from msg.payload
+      ∙ state_of-file awake p ∙ own in
+      let after : FileStep → FilesStep = λ one. record { files = with_file files one.state; turned = one.turned } in
+      record {
+        met = put_met q new put its sound;
+        step =
+            ap after (ap (λ s. step_of_file site s msg.from msg.payload) (sym state) ∙ step)
+            ∙ ap (λ fs. let step : FilesStep = record { files = fs; turned = turned } in step) (sym (put_states q new put its));
+      }
+
+  module _ (agrees : List Record → Type 0) (now : ℕ) (sealed : Bool) (msg : Msg) (new : BTreeMap FileId Slot) (concerns : file_concerned msg.payload ≡ Some file) where
+    -- a message's row at the file
+    abbrev Takes : FileView → FileView → Turned → Type 0
+    Takes one other turned = (records : List Record) → agrees records → IsRowOn (λ site s. step_of_file site s msg.from msg.payload) msg.payload sealed now (body_by records) one other turned
+
+    -- and what it makes of the files
+    abbrev Took : Turned → Type 0
+    Took turned =
+        (records : List Record) → agrees records → (test : Capability → Bool) → IsSealedBy test msg.payload sealed
+        → StepsFiles (λ files. handle_message (site_at awake now test (body_by records)) awake files msg (file_concerned msg.payload)) awake old (with_slots new) turned
+
+    took : (p q : Slot) (turned : Turned) → id_of p ≡ file → state_of awake p ≡ file_at awake (states_of awake old.slots.entries) file → PutsSlot file q old.slots new → IsSoundSlot awake q
+        → Takes (view_of awake p) (view_of awake q) turned → Took turned
+    took p q turned own state put sound takes =
+        λ records agree test is_sealed.
+        let site = site_at awake now test (body_by records) in
+        subst (λ o. StepsFiles (λ files. handle_message site awake files msg o) awake old (with_slots new) turned) (sym concerns)
+        (met_take site msg p q new turned own state put sound (takes records agree test is_sealed).step)
+
+    -- a file that has a slot
+    pub found_took : {E : Type 0} (p q : Slot) (r : Result Turned E) → slot_at file old.slots.entries ≡ Some p → WritesThrough file_cmp (file_cmp file) old.slots q new → IsSoundSlot awake q
+        → IfOk r (Takes (view_of awake p) (view_of awake q)) → IfOk r Took
+    found_took p q r there writes sound =
+        if_ok (Takes (view_of awake p) (view_of awake q)) Took r
+        (λ turned. took p q turned (are.each file p there).own (sym (file_is awake old.slots.entries file own_slots ∙ ap (state_in awake file) there)) (put_there p q new there writes) sound)
+
+    -- a file that has none
+    pub new_took : {E : Type 0} (had : BTreeMap FileId Slot) (r : Result Turned E) → had ≡ old.slots → slot_at file old.slots.entries ≡ None
+        → IfOk r (λ turned. PutsNew (λ one other. Takes one other turned) awake file had new) → IfOk r Took
+    new_took had r same missing =
+        if_ok (λ turned. PutsNew (λ one other. Takes one other turned) awake file had new) Took r
+        (λ turned puts.
+        let put = subst (λ m. PutsSlot file puts.made m new) same puts.put in
+        took (slot.Row (new_row file)) puts.made turned refl (sym (file_is awake old.slots.entries file own_slots ∙ ap (state_in awake file) missing)) put puts.sound puts.step)
+
+  -- after an error
+  pub found_same : {A E : Type 0} (p q : Slot) (new : BTreeMap FileId Slot) (r : Result A E) → slot_at file old.slots.entries ≡ Some p → WritesThrough file_cmp (file_cmp file) old.slots q new
+      → IsSoundSlot awake q → OnErr r (view_of awake q ≡ view_of awake p) → OnErr r (SameFiles awake old (with_slots new))
+  found_same p q new r there writes sound =
+      on_err (view_of awake q ≡ view_of awake p) (SameFiles awake old (with_slots new)) r
+      (λ same.
+      let es = old.slots.entries in
+      let state = ap (λ (v : FileView). v.state) same in
+      let own : id_of p ≡ file = (are.each file p there).own in
+      let its : id_of q ≡ file = sym (state_of-file awake q) ∙ ap (λ (s : FileState). s.kept.file) state ∙ state_of-file awake p ∙ own in
+      let put = put_there p q new there writes in
+      record {
+        met = put_met q new put its sound;
+        files =
+            put_states q new put its ∙ ap (with_file (states_of awake es)) state ∙ file_put awake es file p own_slots own
+            ∙ ap (states_of awake) (sym (put_found es file p p are.rising there) ∙ put_same file es p there);
+      })
+
+  pub new_same : {A E : Type 0} (had new : BTreeMap FileId Slot) (r : Result A E) → had ≡ old.slots → OnErr r (new.entries ≡ had.entries) → OnErr r (SameFiles awake old (with_slots new))
+  new_same had new r is =
+      on_err (new.entries ≡ had.entries) (SameFiles awake old (with_slots new)) r
+      (λ stays.
+      let same : new.entries ≡ old.slots.entries = stays ∙ ap (λ (m : BTreeMap FileId Slot). m.entries) is in
+      record {
+        met = record {
+          rising = subst (λ (es : Slots). IsStrictlySortedBy file_cmp (keys_of es)) (sym same) are.rising;
+          each = λ f s found. busy_met.each f s (sym (ap (slot_at f) same) ∙ found);
+        };
+        files = ap (states_of awake) same;
+      })
 
 -- ---- a Wake
 
-pub met_woke : (now : ℕ) (awake : Awake) (old new : MetFiles) (gave : Woken) (asks turned : Turned) → WakesSlots now awake old.slots new.slots (is_among new.busy.keys) gave
-    → asks ≡ sends (asks_dir awake.node ∷ []) → turned ≡ joined asks (joined gave.overdue gave.again) → (sealed : Capability → Bool) (body : FileId → ℕ → Stamp → List ℕ)
-    → StepsFiles (woken (site_at awake now sealed body)) awake old new turned
-met_woke now awake old new gave asks turned woke asks_are turned_is sealed body =
+pub met_woke : (now : ℕ) (awake : Awake) (old : MetFiles) (new : BTreeMap FileId Slot) (gave : Woken) (turned : Turned) → GivesAll now awake (states_of awake old.slots.entries) gave
+    → EndsAll now awake (is_among old.busy.keys) old.slots new → turned ≡ joined (sends (asks_dir awake.node ∷ [])) (joined gave.overdue gave.again)
+    → (sealed : Capability → Bool) (body : FileId → ℕ → Stamp → List ℕ) → StepsFiles (woken (site_at awake now sealed body)) awake old (record { slots = new; busy = old.busy }) turned
+met_woke now awake old new gave turned gives ends turned_is sealed body =
     let site = site_at awake now sealed body in
     let settled = each_file (expired site) (states_of awake old.slots.entries) in
-    let whole : Turned → FilesStep → FilesStep = λ first then. record { files = then.files; turned = joined (sends (asks_dir awake.node ∷ [])) (joined first then.turned) } in
-    let last : FilesStep = each_file (wake_of_file site) settled.files in
-    let files = joined gave.overdue gave.again in
+    let last = each_file (wake_of_file site) settled.files in
+    let files = states_of awake new.entries in
+    let whole : List FileState → Turned → Turned → FilesStep = λ fs o a. record { files = fs; turned = joined (sends (asks_dir awake.node ∷ [])) (joined o a) } in
     record {
-      met = woke.slots;
+      met = ends.slots;
       step =
-          ap (λ first. whole first last) (woke.overdue sealed body)
-          ∙ ap (whole gave.overdue) (woke.again sealed body)
-          ∙ ap (λ t. let step : FilesStep = record { files = states_of awake new.slots.entries; turned = t } in step)
-          (ap (λ a. joined a files) (sym asks_are) ∙ sym turned_is);
+          ap (λ fs. whole fs settled.turned last.turned) (ends.files sealed body)
+          ∙ ap (λ o. whole files o last.turned) (gives.overdue sealed body)
+          ∙ ap (whole files gave.overdue) (gives.again sealed body)
+          ∙ ap (λ t. let step : FilesStep = record { files = files; turned = t } in step) (sym turned_is);
     }
 
 -- ---- an event
@@ -224,6 +220,9 @@ module _ (silent : Silent) (now : ℕ) (awake : Awake) (is_awake : awake_at sile
 
   pub met_there : (met : MetFiles) → AreMet (awake_of silent) met → AreMet awake met
   met_there met = subst (λ a. AreMet a met) (sym (awake_is silent now awake is_awake))
+
+  pub same_here : (old new : MetFiles) → SameFiles awake old new → SameFiles (awake_of silent) old new
+  same_here old new = subst (λ a. SameFiles a old new) (awake_is silent now awake is_awake)
 
   pub awake_step : (outside : Outside) (last reading : ℕ) (happens : Event) (old new : MetFiles) (turned : Turned) → now ≡ max reading last
       → StepsFiles (λ files. handle_event (site_at awake now outside.sealed outside.body) awake files happens) awake old new turned

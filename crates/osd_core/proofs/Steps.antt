@@ -1,5 +1,5 @@
--- the steps of a file at an OSD: a Wake while it is a row, and a message, which leaves it at its OSD
-use Rattle.std.proofs.Common.{◌≡◌, ℕ, Bool, List, Result, Ok, Err, IfOk, refl, ap, sym, subst, ◌∙◌}
+-- the steps of a file at an OSD: a Wake while it is a row, and a message, which leaves it at its OSD, and as it was after an error
+use Rattle.std.proofs.Common.{◌≡◌, ℕ, Bool, List, Result, Ok, Err, IfOk, OnErr, refl, ap, sym, subst, ◌∙◌}
 use Rattle.xt_messages.specs.declared.message.Payload.{Payload}
 use Rattle.xt_messages.specs.declared.message.Payload.TheVariants as payload
 use Rattle.xt_messages.specs.declared.record.FileRow.{FileRow}
@@ -13,10 +13,10 @@ use Rattle.xt_protocol.specs.Overdue.{expired}
 use Rattle.xt_protocol.specs.FileSteps.{wake_of_file}
 use Rattle.osd_files.specs.Views.{FileView, site_at}
 use Rattle.osd_files.specs.declared.waking.Woken.{Woken}
-use Rattle.osd_files.specs.Whole.{RowRises, IsRowOn, IsSealedBy}
+use Rattle.osd_files.specs.Whole.{IsRowOn, IsSealedBy}
 use Rattle.osd_core.specs.declared.slot.Slot.{Slot}
 use Rattle.osd_core.specs.declared.slot.Slot.TheVariants as slot
-use Rattle.osd_core.specs.FileSlots.{view_of, IsSoundSlot, WakesSlot}
+use Rattle.osd_core.specs.FileSlots.{view_of, EndsSlot, GivesWoken}
 
 -- ---- a Wake
 
@@ -29,26 +29,31 @@ row_sleeps : (site : Site) (awake : Awake) (row : FileRow) → wake_of_file site
 unfolding wake_of_file
 row_sleeps site awake row = refl
 
-at_row : (now : ℕ) (awake : Awake) (row : FileRow) (woken : Woken) → woken.overdue ≡ quiet → woken.again ≡ quiet → RowRises row → WakesSlot now awake (slot.Row row) (slot.Row row) woken
-at_row now awake row woken overdue again rises =
-    let s = file_from awake row in
-    record {
-      sound = rises;
-      file =
+pub row_gives : (now : ℕ) (s : Slot) (row : FileRow) (woken : Woken) → s ≡ slot.Row row → woken.overdue ≡ quiet → woken.again ≡ quiet → GivesWoken now s woken
+row_gives now s row woken is overdue again =
+    subst (λ x. GivesWoken now x woken) (sym is) (λ awake rises. record {
+      overdue = λ sealed body. ap (λ (step : FileStep). step.turned) (row_expires (site_at awake now sealed body) awake row) ∙ sym overdue;
+      again = λ sealed body.
+          let site = site_at awake now sealed body in
+          ap (λ (step : FileStep). (wake_of_file site step.state).turned) (row_expires site awake row)
+          ∙ ap (λ (step : FileStep). step.turned) (row_sleeps site awake row) ∙ sym again;
+    })
+
+-- and it stays as it is
+pub row_ends : (now : ℕ) (s : Slot) (row : FileRow) → s ≡ slot.Row row → EndsSlot now s s
+row_ends now s row is =
+    subst (λ x. EndsSlot now x x) (sym is) (record {
+      sound = λ awake rises. rises;
+      file = λ awake rises.
           record {
             here = refl;
-            overdue = λ sealed body. ap (λ (step : FileStep). step.turned) (row_expires (site_at awake now sealed body) awake row) ∙ sym overdue;
-            again = λ sealed body.
+            state = λ sealed body.
                 let site = site_at awake now sealed body in
-                ap (λ (step : FileStep). wake_of_file site step.state) (row_expires site awake row) ∙ row_sleeps site awake row
-                ∙ ap (λ t. let step : FileStep = record { state = s; turned = t } in step) (sym again);
+                ap (λ (step : FileStep). (wake_of_file site step.state).state) (row_expires site awake row)
+                ∙ ap (λ (step : FileStep). step.state) (row_sleeps site awake row);
           };
-    }
-
-pub row_wakes : (now : ℕ) (awake : Awake) (s : Slot) (row : FileRow) (woken : Woken) → s ≡ slot.Row row → woken.overdue ≡ quiet → woken.again ≡ quiet
-    → IsSoundSlot awake s → WakesSlot now awake s s woken
-row_wakes now awake s row woken is overdue again =
-    subst (λ x. IsSoundSlot awake x → WakesSlot now awake x x woken) (sym is) (at_row now awake row woken overdue again)
+      rests = refl;
+    })
 
 -- ---- a message
 
@@ -61,13 +66,25 @@ says_so : (content : Payload) (sealed : Bool) → IsSealedBy (λ capability. sea
 says_so (payload.Ask number capability asked) sealed = refl
 says_so _ sealed = tt
 
+pub on_err : {A E : Type 0} (P Q : Type 0) (r : Result A E) → (P → Q) → OnErr r P → OnErr r Q
+on_err P Q (Ok a) all h = h
+on_err P Q (Err e) all h = all h
+
+pub at_err : {A E : Type 0} (P : Type 0) (r : Result A E) → P → OnErr r P
+at_err P (Ok a) h = tt
+at_err P (Err e) h = h
+
 -- its file stays at this OSD
 pub slot_stays : {E : Type 0} (agrees : List Record → Type 0) (row : Site → FileState → FileStep) (content : Payload) (sealed : Bool) (now : ℕ) (awake : Awake) (old : Slot) (file new : FileView)
     (r : Result Turned E) → (one : (records : List Record) × agrees records) → file ≡ view_of awake old
-    → IfOk r (λ turned. (records : List Record) → agrees records → IsRowOn row content sealed now (body_by records) file new turned) → IfOk r (λ turned. IsSoundSlot awake (slot.File new))
-slot_stays agrees row content sealed now awake old file new r one is took =
-    if_ok (λ turned. (records : List Record) → agrees records → IsRowOn row content sealed now (body_by records) file new turned) (λ turned. IsSoundSlot awake (slot.File new)) r
-    (λ turned did. (did one.0 one.1 (λ capability. sealed) (says_so content sealed)).here ∙ ap (λ (f : FileView). f.awake) is) took
+    → IfOk r (λ turned. (records : List Record) → agrees records → IsRowOn row content sealed now (body_by records) file new turned) → OnErr r (new ≡ file) → new.awake ≡ awake
+slot_stays agrees row content sealed now awake old file new (Ok turned) one is took same = (took one.0 one.1 (λ capability. sealed) (says_so content sealed)).here ∙ ap (λ (f : FileView). f.awake) is
+slot_stays agrees row content sealed now awake old file new (Err e) one is took same = ap (λ (f : FileView). f.awake) (same ∙ is)
+
+-- and is as it was after an error
+pub slot_same : {E : Type 0} (awake : Awake) (old : Slot) (file new : FileView) (r : Result Turned E) → file ≡ view_of awake old → OnErr r (new ≡ file) → OnErr r (view_of awake (slot.File new) ≡ view_of awake old)
+slot_same awake old file new r is same =
+    on_err (new ≡ file) (view_of awake (slot.File new) ≡ view_of awake old) r (λ stays. ap (λ (f : FileView). let view : FileView = record { awake = awake; state = f.state } in view) (stays ∙ is)) same
 
 -- its row, as its slot shows it
 pub slot_row : {E : Type 0} (agrees : List Record → Type 0) (row : Site → FileState → FileStep) (content : Payload) (sealed : Bool) (now : ℕ) (awake : Awake) (old : Slot) (file new : FileView)

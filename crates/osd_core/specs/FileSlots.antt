@@ -6,7 +6,7 @@ use Rattle.xt_protocol.specs.Forgetting.{file_without}
 use Rattle.xt_protocol.specs.LeaseRows.{Awake}
 use Rattle.xt_protocol.specs.FileStates.{FileState, file_from}
 use Rattle.osd_files.specs.Views.{FileView}
-use Rattle.osd_files.specs.Whole.{RowRises, IsWoken}
+use Rattle.osd_files.specs.Whole.{RowRises, IsWoken, Wakes}
 use Rattle.osd_files.specs.declared.waking.Woken.{Woken}
 use Rattle.osd_core.specs.declared.slot.Slot.{Slot}
 use Rattle.osd_core.specs.declared.slot.Slot.TheVariants as slot
@@ -34,10 +34,15 @@ abbrev pub slot_rests : Slot → Bool
 slot_rests (slot.Row row) = true
 slot_rests (slot.File file) = false
 
--- A Wake of a slot: what a Wake gives at its file.
-pub record WakesSlot (now : ℕ) (awake : Awake) (old new : Slot) (woken : Woken) : Type 0 where
-  pub sound : IsSoundSlot awake new
-  pub file : IsWoken now (view_of awake old) (view_of awake new) woken
+-- what a Wake gives at a slot's file
+abbrev pub GivesWoken : ℕ → Slot → Woken → Type 0
+GivesWoken now s woken = (awake : Awake) → IsSoundSlot awake s → Wakes now (view_of awake s) woken
+
+-- A slot after a Wake at its file. It stays as sound, and rests if it did.
+pub record EndsSlot (now : ℕ) (old new : Slot) : Type 0 where
+  pub sound : (awake : Awake) → IsSoundSlot awake old → IsSoundSlot awake new
+  pub file : (awake : Awake) → IsSoundSlot awake old → IsWoken now (view_of awake old) (view_of awake new)
+  pub rests : slot_rests new ≡ slot_rests old
 
 -- A slot whose file has forgotten the held bodies that aren't among these. It is of the same file, stays as sound, and rests if it did.
 pub record ForgetsSlot (keep : List KeepBody) (old new : Slot) : Type 0 where

@@ -1,9 +1,7 @@
 -- the files of an OSD: each as its row, until it is used, and as a file from then on; and those at which a Wake may have something to do
-use Rattle.std.specs.Prelude.{ℕ, Bool, true, false, ◌≡◌, Option, Some, None, List, [], ◌∷◌, map}
+use Rattle.std.specs.Prelude.{ℕ, Bool, false, true, ◌≡◌, Option, Some, None, List, [], ◌∷◌, map}
 use Rattle.std.specs.List.{AllByRecursion, list_any}
 use Rattle.std.specs.BTreeMap.{BTreeMap, IsOrdered, Updates, WritesThrough, get, insert_entry, is_at}
-use Rattle.std.specs.BTreeSet as busy_set
-use Rattle.std.specs.BTreeSet.{BTreeSet}
 use Rattle.xt_base.specs.declared.ids.FileId.{FileId}
 use Rattle.xt_base.specs.declared.ids.Stamp.{Stamp}
 use Rattle.xt_messages.specs.declared.file.Capability.{Capability}
@@ -19,13 +17,13 @@ use Rattle.xt_protocol.specs.Overdue.{expired}
 use Rattle.xt_protocol.specs.FileSteps.{wake_of_file}
 use Rattle.xt_protocol.specs.Turns.{joined}
 use Rattle.xt_protocol.specs.OsdSteps.{FilesStep, each_file}
-use Rattle.osd_files.specs.Views.{site_at}
+use Rattle.osd_files.specs.Views.{FileView, site_at}
 use Rattle.osd_files.specs.Whole.{RowRises}
 use Rattle.osd_files.specs.declared.waking.Woken.{Woken}
 use Rattle.osd_core.specs.declared.slot.Slot.{Slot}
 use Rattle.osd_core.specs.declared.slot.Slot.TheVariants as slot
 use Rattle.osd_core.specs.declared.met.MetFiles.{MetFiles}
-use Rattle.osd_core.specs.FileSlots.{id_of, state_of, slot_rests, ForgetsSlot, IsSoundSlot, WakesSlot}
+use Rattle.osd_core.specs.FileSlots.{id_of, state_of, view_of, slot_rests, EndsSlot, ForgetsSlot, GivesWoken, IsSoundSlot}
 
 -- an OSD, once its silence is over
 abbrev pub awake_of : Silent → Awake
@@ -63,68 +61,60 @@ pub record StepsFiles (row : List FileState → FilesStep) (awake : Awake) (old 
   pub met : AreMet awake new
   pub step : row (states_of awake old.slots.entries) ≡ record { files = states_of awake new.slots.entries; turned = turned }
 
+-- They stay the files that an OSD has met, in the states that they had.
+pub record SameFiles (awake : Awake) (old new : MetFiles) : Type 0 where
+  pub met : AreMet awake new
+  pub files : states_of awake new.slots.entries ≡ states_of awake old.slots.entries
+
 -- ---- a message
 
--- the file has a slot: the one that it had, or else a new one
-abbrev pub IsMade : FileId → BTreeMap FileId Slot → BTreeMap FileId Slot → Option Slot → Type 0
-IsMade file old new None =
-    (new.entries ≡ insert_entry file_cmp old.entries file (slot.Row (new_row file))) × Updates file_cmp old new file (Some (slot.Row (new_row file)))
-    × IsOrdered file_cmp new
-IsMade file old new (Some s) = new ≡ old
+-- this slot was put at a file
+pub record PutsSlot (file : FileId) (s : Slot) (old new : BTreeMap FileId Slot) : Type 0 where
+  pub entries : new.entries ≡ insert_entry file_cmp old.entries file s
+  pub updates : Updates file_cmp old new file (Some s)
+  pub rising : IsOrdered file_cmp new
 
--- a file was met: it has a slot, and it is busy
-pub record IsMet (file : FileId) (old new : MetFiles) : Type 0 where
-  pub made : IsMade file old.slots new.slots (get file_cmp old.slots file)
-  pub busy : busy_set.Updates file_cmp old.busy new.busy file true
+-- A slot was put at a file that had none: it is sound, and what this says is done to a new row.
+pub record PutsNew (done : FileView → FileView → Type 0) (awake : Awake) (file : FileId) (old new : BTreeMap FileId Slot) : Type 0 where
+  pub made : Slot
+  pub sound : IsSoundSlot awake made
+  pub step : done (view_of awake (slot.Row (new_row file))) (view_of awake made)
+  pub put : PutsSlot file made old new
 
 -- ---- a Wake
 
--- a Wake at a slot, whose part stands after what others gave
-pub record WakesMore (now : ℕ) (old new : Slot) (before after : Woken) : Type 0 where
-  pub next : Woken
-  pub woke : (awake : Awake) → IsSoundSlot awake old → WakesSlot now awake old new next
-  pub overdue : after.overdue ≡ joined before.overdue next.overdue
-  pub again : after.again ≡ joined before.again next.again
+-- what a Wake gives at a file, after what others gave: nothing where it has no slot
+abbrev pub GivesMore : ℕ → Option Slot → Woken → Woken → Type 0
+GivesMore now None before after = after ≡ before
+GivesMore now (Some s) before after =
+    (next : Woken) × GivesWoken now s next × (after.overdue ≡ joined before.overdue next.overdue) × (after.again ≡ joined before.again next.again)
 
--- a file is busy from now on, unless it rests
-abbrev pub StaysBusy : FileId → Bool → BTreeSet FileId → BTreeSet FileId → Type 0
-StaysBusy file true busy new = new ≡ busy
-StaysBusy file false busy new = busy_set.Updates file_cmp busy new file true
-
--- a Wake at the slot of a file
-pub record WakesAt (now : ℕ) (file : FileId) (s : Slot) (old new : BTreeMap FileId Slot) (busy still : BTreeSet FileId) (before after : Woken) : Type 0 where
-  pub woke : Slot
-  pub more : WakesMore now s woke before after
-  pub put : WritesThrough file_cmp (file_cmp file) old woke new
-  pub stays : StaysBusy file (slot_rests woke) busy still
-
--- a Wake at a file, which does nothing where the file has no slot
-abbrev pub WakesIfMet : ℕ → FileId → BTreeMap FileId Slot → BTreeMap FileId Slot → BTreeSet FileId → BTreeSet FileId → Woken → Woken → Option Slot → Type 0
-WakesIfMet now file old new busy still before after None = (new ≡ old) × (still ≡ busy) × (after ≡ before)
-WakesIfMet now file old new busy still before after (Some s) = WakesAt now file s old new busy still before after
-
--- A Wake of all slots: what is overdue at all of them, and then what the rows of a Wake give at all of them. These files are busy then.
-pub record WakesSlots (now : ℕ) (awake : Awake) (old new : BTreeMap FileId Slot) (busy : FileId → Bool) (woken : Woken) : Type 0 where
-  pub slots : AreSlots awake busy new
+-- What a Wake gives at all files: what is overdue at each, and then what the rows of a Wake give at each.
+pub record GivesAll (now : ℕ) (awake : Awake) (files : List FileState) (woken : Woken) : Type 0 where
   pub overdue : (sealed : Capability → Bool) (body : FileId → ℕ → Stamp → List ℕ)
-      → (each_file (expired (site_at awake now sealed body)) (states_of awake old.entries)).turned ≡ woken.overdue
+      → (each_file (expired (site_at awake now sealed body)) files).turned ≡ woken.overdue
   pub again : (sealed : Capability → Bool) (body : FileId → ℕ → Stamp → List ℕ)
-      → each_file (wake_of_file (site_at awake now sealed body)) (each_file (expired (site_at awake now sealed body)) (states_of awake old.entries)).files
-      ≡ record { files = states_of awake new.entries; turned = woken.again }
-
--- a Wake at the busy files alone, which is one of all
-abbrev pub WakesBusy : ℕ → List FileId → BTreeMap FileId Slot → BTreeMap FileId Slot → BTreeSet FileId → Woken → Type 0
-WakesBusy now files old new still woken = (awake : Awake) → AreSlots awake (is_among files) old → WakesSlots now awake old new (is_among still.keys) woken
+      → (each_file (wake_of_file (site_at awake now sealed body)) (each_file (expired (site_at awake now sealed body)) files).files).turned ≡ woken.again
 
 -- the same of the files that an OSD has met
-abbrev pub WakesMet : ℕ → MetFiles → MetFiles → Woken → Type 0
-WakesMet now old new woken = (awake : Awake) → AreMet awake old → WakesSlots now awake old.slots new.slots (is_among new.busy.keys) woken
+abbrev pub GivesMet : ℕ → MetFiles → Woken → Type 0
+GivesMet now met woken = (awake : Awake) → AreMet awake met → GivesAll now awake (states_of awake met.slots.entries) woken
 
--- a Wake of them, whose parts stand after what was asked
-pub record WakesBehind (now : ℕ) (old new : MetFiles) (before after : Turned) : Type 0 where
-  pub woken : Woken
-  pub woke : WakesMet now old new woken
-  pub joins : after ≡ joined before (joined woken.overdue woken.again)
+-- a file after a Wake, if it has a slot
+abbrev pub EndsAt : ℕ → FileId → BTreeMap FileId Slot → BTreeMap FileId Slot → Option Slot → Type 0
+EndsAt now file old new None = new ≡ old
+EndsAt now file old new (Some s) = (woke : Slot) × EndsSlot now s woke × WritesThrough file_cmp (file_cmp file) old woke new
+
+-- All slots after a Wake, where these files are busy.
+pub record EndsAll (now : ℕ) (awake : Awake) (busy : FileId → Bool) (old new : BTreeMap FileId Slot) : Type 0 where
+  pub slots : AreSlots awake busy new
+  pub files : (sealed : Capability → Bool) (body : FileId → ℕ → Stamp → List ℕ)
+      → (each_file (wake_of_file (site_at awake now sealed body)) (each_file (expired (site_at awake now sealed body)) (states_of awake old.entries)).files).files
+      ≡ states_of awake new.entries
+
+-- a Wake done at the busy files alone, which is one of all
+abbrev pub EndsBusy : ℕ → List FileId → BTreeMap FileId Slot → BTreeMap FileId Slot → Type 0
+EndsBusy now files old new = (awake : Awake) → AreSlots awake (is_among files) old → EndsAll now awake (is_among files) old new
 
 -- ---- what is forgotten
 

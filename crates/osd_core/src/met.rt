@@ -3,7 +3,8 @@ use std::collections::{BTreeMap, BTreeSet};
 use xt_base::FileId;
 
 /// The files that an OSD has met, by their order, and beside them those that are busy: those that a message has concerned. All
-/// others are rows of the records, and rest, so that a Wake looks at the busy ones alone.
+/// others are rows of the records, and rest, so that a Wake looks at the busy ones alone. A busy file may have no slot: the step
+/// on the first message for it failed then.
 pub struct MetFiles {
     pub slots: BTreeMap<FileId, Slot>,
     pub busy: BTreeSet<FileId>,

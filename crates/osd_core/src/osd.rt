@@ -1,4 +1,4 @@
-ghost use Rattle.std.specs.Prelude.{◌≡◌, ◌<◌, ◌^◌, List, [], Ok, IfOk, IfSome, OnErr, max};
+ghost use Rattle.std.specs.Prelude.{◌≡◌, ◌<◌, ◌^◌, List, Ok, IfOk, IfSome, OnErr};
 ghost use Rattle.xt_protocol.specs.SeenBodies.{body_by};
 ghost use Rattle.object_versions.specs.KeptBodies.{fault_of, ReadsOnly};
 ghost use Rattle.xt_protocol.specs.Forgetting.{keep_of, osd_without};
@@ -7,11 +7,11 @@ ghost use Rattle.osd_files.specs.Views.{site_at};
 ghost use Rattle.xt_messages.specs.Limits.{FitsEvent};
 ghost use Rattle.xt_messages.specs.declared.record.Record.{Record};
 ghost use Rattle.osd_core.specs.Keys.{FitsKey, sealed_by, stops_by, outside_of};
-ghost use Rattle.osd_core.specs.Slots.{AreMet, AreRows, StepsFiles};
+ghost use Rattle.osd_core.specs.Slots.{AreMet, AreRows, SameFiles, StepsFiles};
 
 use crate::messages::{is_sealed, stops};
 use crate::met::MetFiles;
-use crate::slots::{clear, forget_all, keep_all, met_from, take, wake};
+use crate::slots::{forget_all, keep_all, met_from, take, wake};
 use flease::{Awake, Silent};
 use object_versions::{Bodies, SoughtBodies, StepErr};
 use std::alloc::Global;
@@ -64,7 +64,8 @@ impl Model for Osd {
     ghost invariant = { λ o. IsOsd o.key o.node o.silent o.last o.met };
 }
 
-/// An event at a clock, when the silence is over. After an error the files aren't to be used again.
+/// An event at a clock, when the silence is over. After an error, since memory ran out or a body couldn't be read, each file is as it
+/// was.
 fn handle<B: Bodies>(
     alloc: Global,
     key: &Option<Octets>,
@@ -81,6 +82,7 @@ fn handle<B: Bodies>(
     ensures step { IfOk result (λ turned. (records : List Record) → B.agrees bodies.new records →
         StepsFiles (λ files. handle_event (site_at awake now (sealed_by key.now) (body_by records))
         awake files ev.now) awake met.old met.new turned) }
+    ensures same { OnErr result (SameFiles awake met.old met.new) }
     ensures reads { ReadsOnly B.agrees B.fault_count bodies.old bodies.new (fault_of result) }
 {
     match ev {
@@ -126,7 +128,7 @@ impl Osd {
     }
 
     /// The step on an event at a reading of the clock, in milliseconds. After an error, since memory ran out or a body couldn't
-    /// be read, it has no files. It isn't to be used again then: its records still have them, and it would answer as if they hadn't.
+    /// be read, it is as it was.
     pub fn step<B: Bodies>(
         &mut self,
         bodies: &mut B,
@@ -139,25 +141,16 @@ impl Osd {
             step_of_osd (outside_of self.old.key records) self.old.state now ev.now ≡
             record { osd = self.new.state; turned = turned }) }
         ensures key { IfOk result (λ turned. self.new.key ≡ self.old.key) }
-        ensures failed { OnErr result (self.new ≡
-            record {
-              key = self.old.key;
-              state = record self.old.state { last = max now self.old.state.last; files = [] };
-            }) }
+        ensures same { OnErr result (self.new ≡ self.old) }
         ensures reads { ReadsOnly B.agrees B.fault_count bodies.old bodies.new (fault_of result) }
     {
         let now = now.max(self.last);
         let Some(awake) = self.silent.awake(now) else {
             return Ok(quiet(self.alloc));
         };
+        let turned = handle(self.alloc, &self.key, &mut self.met, awake, bodies, now, ev)?;
         self.last = now;
-        match handle(self.alloc, &self.key, &mut self.met, awake, bodies, now, ev) {
-            Ok(turned) => Ok(turned),
-            Err(error) => {
-                clear(&mut self.met);
-                Err(error)
-            }
-        }
+        Ok(turned)
     }
 
     /// The held bodies that it needs, file by file, those of a file by object and stamp.

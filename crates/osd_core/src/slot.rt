@@ -1,4 +1,4 @@
-ghost use Rattle.std.specs.Prelude.{◌≡◌, ◌<◌, ◌^◌, ◌++◌, List, [], IfOk, OnOk};
+ghost use Rattle.std.specs.Prelude.{◌≡◌, ◌<◌, ◌^◌, ◌++◌, List, [], IfOk, OnErr, OnOk};
 ghost use Rattle.xt_messages.specs.Limits.{FitsPayload};
 ghost use Rattle.xt_messages.specs.declared.record.Record.{Record};
 ghost use Rattle.xt_protocol.specs.Folds.{new_row};
@@ -10,7 +10,7 @@ ghost use Rattle.xt_protocol.specs.FileSteps.{step_of_file};
 ghost use Rattle.xt_protocol.specs.Forgetting.{needed_of, row_without};
 ghost use Rattle.osd_files.specs.Whole.{IsRowOn};
 ghost use Rattle.object_versions.specs.Keeping.{needed_among};
-ghost use Rattle.osd_core.specs.FileSlots.{slot_rests, state_of, view_of, ForgetsSlot, IsSoundSlot, WakesSlot};
+ghost use Rattle.osd_core.specs.FileSlots.{state_of, view_of, EndsSlot, ForgetsSlot, GivesWoken, IsSoundSlot};
 
 use flease::Awake;
 use object_versions::{
@@ -85,16 +85,6 @@ fn forget_in(row: &mut FileRow, keep: &SoughtBodies<'_>)
 }
 
 impl Slot {
-    /// Whether its file rests, so that a Wake has nothing to do at it: a row does.
-    pub fn rests(&self) -> bool
-        ensures { result ≡ slot_rests self.now }
-    {
-        match self {
-            Slot::Row(_) => true,
-            Slot::File(_) => false,
-        }
-    }
-
     /// Makes a file of a row.
     fn open(&mut self, alloc: Global, awake: Awake)
         requires { IsSoundSlot awake self.old }
@@ -109,7 +99,7 @@ impl Slot {
     }
 
     /// The step of its file on a message that concerns it, where `sealed` says whether the tag of an ask's capability is the
-    /// key's. After an error it isn't to be used again.
+    /// key's. After an error, since memory ran out or a body couldn't be read, its file is as it was.
     pub fn take<B: Bodies>(
         &mut self,
         alloc: Global,
@@ -122,10 +112,11 @@ impl Slot {
         requires sound { IsSoundSlot awake self.old }
         requires clock { now < 2 ^ 62 }
         requires fits { FitsPayload msg.now.payload }
-        ensures sound { IfOk result (λ turned. IsSoundSlot awake self.new) }
+        ensures sound { IsSoundSlot awake self.new }
         ensures row { IfOk result (λ turned. (records : List Record) → B.agrees bodies.new records →
             IsRowOn (λ site s. step_of_file site s msg.now.from msg.now.payload) msg.now.payload
             sealed now (body_by records) (view_of awake self.old) (view_of awake self.new) turned) }
+        ensures same { OnErr result (view_of awake self.new ≡ view_of awake self.old) }
         ensures reads { ReadsOnly B.agrees B.fault_count bodies.old bodies.new (fault_of result) }
     {
         self.open(alloc, awake);
@@ -135,15 +126,25 @@ impl Slot {
         file.take(bodies, now, sealed, msg.from, &msg.payload)
     }
 
-    /// What a Wake gives at its file: nothing while it is a row. After an error it isn't to be used again.
-    pub fn wake(&mut self, alloc: Global, now: u64) -> Result<Woken, OutOfMemory>
+    /// What a Wake at the clock `now` gives at its file: nothing while it is a row. The file stays as it is until `end_wake`.
+    pub fn wake(&self, alloc: Global, now: u64) -> Result<Woken, OutOfMemory>
         requires { now < 2 ^ 62 }
-        ensures { IfOk result (λ woken. (awake : Awake) → IsSoundSlot awake self.old →
-            WakesSlot now awake self.old self.new woken) }
+        ensures { IfOk result (λ woken. GivesWoken now self.now woken) }
     {
         match self {
             Slot::Row(_) => Ok(no_news(alloc)),
             Slot::File(file) => file.wake(now),
+        }
+    }
+
+    /// Its file after a Wake at the clock `now`: a row stays one. It takes no memory.
+    pub fn end_wake(&mut self, now: u64)
+        requires { now < 2 ^ 62 }
+        ensures { EndsSlot now self.old self.new }
+    {
+        match self {
+            Slot::Row(_) => {}
+            Slot::File(file) => file.end_wake(now),
         }
     }
 

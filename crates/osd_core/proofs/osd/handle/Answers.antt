@@ -38,4 +38,4 @@ returns-in_ok-wake-in-Wake-clause-step g c =
     let body = body_by records in
     let awake = c.args.awake in
     subst (λ e. StepsFiles (λ files. handle_event (site_at awake c.args.now sealed body) awake files e) awake c.args.met.now c.wake.new.met c.in_ok-wake-in-Wake.field-0) (sym c.in-Wake.is)
-    (c.in_ok-wake-in-Wake.ensures sealed body)
+    (c.in_ok-wake-in-Wake.ensures.step sealed body)
