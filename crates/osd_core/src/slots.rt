@@ -198,7 +198,7 @@ fn asks_dir(node: NodeId) -> Msg
     message(node, DIR_NODE, payload)
 }
 
-/// All that an OSD gives at a Wake: it asks the DIR for the OSDs, and takes what the files gave behind that.
+/// All that an OSD gives at a Wake: it asks the DIR for the OSDs, and takes what the files gave after that.
 fn wake_gives(alloc: Global, node: NodeId, woken: &mut Woken) -> Result<Turned, OutOfMemory>
     ensures { IfOk result (λ turned. turned ≡
         joined (sends (asks_dir node ∷ [])) (joined woken.old.overdue woken.old.again)) }
