@@ -11,6 +11,10 @@ xtfs=$(bash "$here/../tests/built.sh") || {
     exit 1
 }
 port=${1:-7400}
+if ! [[ $port =~ ^[0-9]{1,5}$ ]]; then
+    echo "first-file.sh: PORT is a number: $port" >&2
+    exit 2
+fi
 folder=$(mktemp -d)
 nodes=()
 trap 'kill -9 "${nodes[@]}" 2>/dev/null; rm -rf "$folder"' EXIT

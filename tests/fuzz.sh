@@ -44,7 +44,7 @@ KEPT = tempfile.mkdtemp(prefix="xtfs-found-")
 # A run takes milliseconds; one that takes so many seconds hangs.
 PATIENCE = 20
 # So many command lines run at once in a worker: most wait for an answer that nobody gives.
-LINES_AT_ONCE = 8
+LINES_AT_ONCE = 32
 counting = threading.Lock()
 found = 0
 
@@ -420,8 +420,8 @@ def lines_are_tried(rng, folder, count):
 
     with concurrent.futures.ThreadPoolExecutor(LINES_AT_ONCE) as pool:
         drawn = (([os.fsdecode(w) for w in words_changed(rng)], rng.choice([b"", b"times 1000 100\n"])) for _ in range(count))
-        # (a part at a time, so that what is drawn and not yet tried stays little)
-        while part := list(itertools.islice(drawn, 1000)):
+        # (a part at a time, so that what is drawn and not yet tried stays little; each part waits for its slowest line)
+        while part := list(itertools.islice(drawn, 10_000)):
             for done in [pool.submit(tried_alone, *it) for it in part]:
                 done.result()
 
