@@ -1,20 +1,46 @@
 #!/usr/bin/env bash
-# A cluster of three OSDs on this machine stores a file; an OSD is killed, and the file is read again. Each command is printed before it
-# is run. The nodes are processes of the proved program (`tests/build.sh` builds it), with their stores in a new folder; all end with
-# this script, after some five seconds. The status is 0 where the file was read back both times.
-#   examples/first-file.sh [PORT]
+# A cluster of three OSDs on this machine stores a file on all three, and reads it back. The status is 0 where what was read is right.
+#   examples/first-file.sh [--unproved] [PORT]
 # PORT is the first of five that are used, 7400 where none is given.
+#
+# Where the proved program is built (`tests/build.sh` builds it), each node is a process of it, each command is printed before it is run,
+# and one OSD is killed before the file is read again: some five seconds. Else, or where that is asked for, the kit runs the same sources
+# with no proof: `xtfs cluster` starts the nodes and carries out the client commands of its input, in some three minutes, most of them for
+# compiling. One line on standard error says which of the two it is. All nodes end with this script, and their stores go.
 set -u
 here=$(cd "$(dirname "$0")" && pwd)
-xtfs=$(bash "$here/../tests/built.sh") || {
-    echo "first-file.sh: the proved program isn't built: tests/build.sh builds it" >&2
-    exit 1
-}
+proved=yes
+if [ "${1:-}" = --unproved ]; then
+    proved=no
+    shift
+fi
 port=${1:-7400}
 if ! [[ $port =~ ^[0-9]{1,5}$ ]]; then
     echo "first-file.sh: PORT is a number: $port" >&2
     exit 2
 fi
+
+if [ "$proved" = no ] || ! xtfs=$(bash "$here/../tests/built.sh"); then
+    command -v rt >/dev/null || {
+        echo "first-file.sh: the kit's command rt isn't on the PATH (README.md says where the kit comes from)" >&2
+        exit 1
+    }
+    echo "first-file.sh: with no proof, in some three minutes (tests/build.sh builds the proved program)" >&2
+    lines=('mkdir /docs' 'put /docs/first --replicas 3 --pattern 300000' 'get /docs/first --at 131071 --len 3 --hex')
+    words=(cluster --osds 3 --port "$port" --store site- --key 5ec7e7 --lease 4000 --drift 400)
+    said=$(mktemp)
+    trap 'rm -f "$said"' EXIT
+    echo "xtfs ${words[*]}, with the lines"
+    printf '    %s\n' "${lines[@]}"
+    cd "$here/../crates/xtfs" || exit 1
+    wrote=$(printf '%s\n' "${lines[@]}" | rt try --seconds 120 -- "${words[@]}" 2>"$said")
+    printf '%s\n' "$wrote"
+    # Each line wrote what it wrote, and ended with 0; the bytes are those of the pattern.
+    [ "$wrote" = $'= 0\n300000\n= 0\n313233\n= 0' ] && exit
+    cat "$said" >&2
+    exit 1
+fi
+echo "first-file.sh: by the proved program" >&2
 folder=$(mktemp -d)
 nodes=()
 trap 'kill -9 "${nodes[@]}" 2>/dev/null; rm -rf "$folder"' EXIT

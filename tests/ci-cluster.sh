@@ -89,7 +89,8 @@ def main():
     if done.returncode != 0 or done.stdout.decode() != wanted:
         print(f"status {done.returncode}, and it wrote:\n{done.stdout.decode()}wanted:\n{wanted}")
         failed = 1
-    if stores != sorted(["s900", "s901", *(f"s{n}" for n in range(1, OSDS + 1))]):
+    nodes = ["s900", "s901", *(f"s{n}" for n in range(1, OSDS + 1))]
+    if stores != sorted([*nodes, *(f"{node}.node" for node in nodes)]):
         print(f"the stores are {stores}")
         failed = 1
     if not are_free(first, count):

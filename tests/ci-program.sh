@@ -80,6 +80,8 @@ registry 10 remove 1 0
 """.splitlines() + [
     f"meta 10 1 1 rename {'a' * 65_535} {'b' * 65_535}",
     f"meta 10 1 1 list / {'b' * 65_535}",
+    "meta 10 1 1 locate /v/a",
+    "meta 10 1 1 change /v/a 1 2 3",
     f"registry 10 set 1 1 {'a' * 255} 0",
 ]
 
@@ -171,7 +173,7 @@ MRC
 meta 10 1 1
 meta 10 1 1 stat
 meta 10 1 1 stat /v /v
-meta 10 1 1 locate /v
+meta 10 1 1 lodge /v
 meta 10 1 stat /v
 meta 10 4294967296 1 stat /v
 meta 10 1 01 stat /v

@@ -8,7 +8,7 @@ use Rattle.hex.specs.declared.error.FromHexError.{FromHexError}
 use Rattle.hex.proofs.HexLemmas.{decode_of-ok}
 use Rattle.command_words.specs.Commands.{program_app}
 use Rattle.command_words.specs.Ranges.{is_decimal, is_lower_hex, number_of, number_in, number_or, key_of, some_bytes, times_of}
-use Rattle.command_words.specs.Jobs.{Rows, named, node_at, path_at, address_at, mode_at, number_at, number_or_at, number_if_at, key_at, key_if_at, range_of, range_at, layout_at, stripe_at, pattern_at, register_of, mkdir_of, rmdir_of, rm_of, mv_of, chmod_of, ls_of, stat_of, put_of, get_of, truncate_of, file_order, order_of, directory_at, client_of, settings_of, who_of, serving_of, make_of, osd_of, mrc_of, dir_of, cluster_of, node_job, job_in, chosen_in, unless_fault, job_of}
+use Rattle.command_words.specs.Jobs.{Rows, named, node_at, path_at, address_at, mode_at, number_at, number_or_at, number_if_at, key_at, key_if_at, range_of, range_at, layout_at, stripe_at, pattern_at, registered_at, register_of, mkdir_of, rmdir_of, rm_of, mv_of, chmod_of, ls_of, stat_of, put_of, get_of, truncate_of, file_order, order_of, directory_at, client_of, settings_of, who_of, serving_of, make_of, osd_of, mrc_of, dir_of, cluster_of, node_job, job_in, chosen_in, unless_fault, job_of}
 use Rattle.command_words.specs.declared.job.Settings.{Settings}
 use Rattle.command_words.specs.declared.job.Serving.{Serving}
 use Rattle.command_words.specs.declared.job.Defaults.{Defaults}
@@ -139,7 +139,7 @@ of_path inside rows f each = mapped (IsOrder inside) f (path_at (codes "path") r
 register_within : (inside : Bool) (rows : Rows) → IfSome (register_of rows) (IsOrder inside)
 unfolding register_of
 register_within inside rows =
-    then_some (IsOrder inside) _ (node_at (codes "node") rows) (λ node. then_some (IsOrder inside) _ (number_at 1 2 (codes "kind") rows) (λ kind.
+    then_some (IsOrder inside) _ (registered_at rows) (λ node. then_some (IsOrder inside) _ (number_at 1 2 (codes "kind") rows) (λ kind.
     mapped (IsOrder inside) _ (address_at (codes "addr") rows) (λ address. (tt {0}, tt {0}))))
 
 mkdir_within : (inside : Bool) (rows : Rows) → IfSome (mkdir_of rows) (IsOrder inside)

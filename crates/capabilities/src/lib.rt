@@ -14,7 +14,8 @@ ghost use Rattle.capabilities.specs.declared.CapErr.TheVariants.{OutOfMemory as 
 
 use sha2::{Digest, Sha256};
 use std::alloc::{AllocError, Global};
-use xt_base::{FileId, OutOfMemory};
+use std::marker::Model;
+use xt_base::{FileId, Octets, OutOfMemory};
 use xt_messages::{Capability, Denial, Payload};
 use xt_wire::{FieldWriter, WriteFiles};
 
@@ -78,6 +79,58 @@ pub fn hmac(key: &[u8], message: &[u8]) -> Result<[u8; 32], OutOfMemory>
     Ok(outer.finalize())
 }
 
+/// A key of 1 to 64 bytes, with what both hashes hold after its padding, which is hashed once. Contracts see the key.
+#[derive(Drop)]
+pub struct TagKey {
+    key: Octets,
+    inner: Sha256,
+    outer: Sha256,
+}
+
+impl Model for TagKey {
+    ghost use Rattle.std.specs.Prelude.{◌≤◌, ℕ, List, length};
+    ghost use Rattle.sha2.specs.Hashers.{Holds256};
+    ghost use Rattle.capabilities.specs.Tags.{masked};
+
+    ghost Value = { List ℕ };
+
+    ghost view = { λ k. k.key };
+
+    ghost invariant = { λ k. (1 ≤ length k.key) × ((length k.key ≤ 64)
+        × (Holds256 k.inner (masked 0x36 k.key) × Holds256 k.outer (masked 0x5C k.key))) };
+}
+
+impl TagKey {
+    /// The key, ready for tags.
+    pub fn new(alloc: Global, key: &[u8]) -> Result<TagKey, OutOfMemory>
+        requires some { 1 ≤ length key.now }
+        requires short { length key.now ≤ 64 }
+        ensures { IfOk result (λ made. made ≡ key.now) }
+    {
+        let mut inner = Sha256::new();
+        inner.update(&masked(key, INNER_PAD));
+        let mut outer = Sha256::new();
+        outer.update(&masked(key, OUTER_PAD));
+        Ok(TagKey {
+            key: Octets::of(alloc, key)?,
+            inner,
+            outer,
+        })
+    }
+
+    /// The HMAC-SHA-256 of a message under the key.
+    #[tactic(auto, unfolding(crate::specs::Tags::hmac_of))]
+    pub fn tag(&self, message: &[u8]) -> Result<[u8; 32], OutOfMemory>
+        ensures { IfOk result (λ tag. tag ≡ hmac_of self.now message.now) }
+    {
+        let mut inner = self.inner.clone()?;
+        inner.update(message);
+        let mut outer = self.outer.clone()?;
+        outer.update(&inner.finalize());
+        Ok(outer.finalize())
+    }
+}
+
 /// The tag of a capability under the key.
 fn tag_of(alloc: Global, key: &[u8], capability: &Capability) -> Result<[u8; 32], OutOfMemory>
     requires some { 1 ≤ length key.now }
@@ -86,7 +139,7 @@ fn tag_of(alloc: Global, key: &[u8], capability: &Capability) -> Result<[u8; 32]
 {
     let mut fields = FieldWriter::new(alloc);
     fields.sealed(capability)?;
-    hmac(key, fields.finish().as_slice())
+    hmac(key, fields.as_slice())
 }
 
 /// Whether two tags are one. It looks at each byte, also past the first that differs, so that the time it takes doesn't

@@ -34,6 +34,11 @@ fn meta_shown(alloc: Global, answer: &MetaAnswer) -> Result<MetaOutcome, OutOfMe
             file: capability.file.number,
             mark: *mark,
         }),
+        MetaAnswer::Located { location, changing } => Ok(MetaOutcome::Located {
+            version: location.version,
+            changing: *changing,
+            members: location.members,
+        }),
     }
 }
 

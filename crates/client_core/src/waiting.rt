@@ -197,7 +197,8 @@ fn granted(answer: &MetaAnswer) -> Learnt
         MetaAnswer::Done
         | MetaAnswer::Refused { .. }
         | MetaAnswer::Names { .. }
-        | MetaAnswer::Row { .. } => Learnt::Nothing,
+        | MetaAnswer::Row { .. }
+        | MetaAnswer::Located { .. } => Learnt::Nothing,
     }
 }
 

@@ -42,7 +42,7 @@ fn pattern(alloc: Global, from: u64, count: u32) -> Result<Octets, OutOfMemory>
     for place in 0..count {
         bytes.push(((from + u64::from(place)) % 251) as u8)?;
     }
-    Ok(Octets::from(bytes))
+    Octets::from_vec(bytes)
 }
 
 /// Whether a byte is left of a source: where none was read ahead, the source reads.
@@ -117,11 +117,17 @@ fn read_piece<S: Source>(alloc: Global, src: &mut S, room: u32) -> Result<Octets
         let left = room - bytes.len();
         match take_more(src, &mut bytes, left) {
             Ok(true) => {}
-            Ok(false) => return Ok(Octets::from(bytes)),
+            Ok(false) => break,
             Err(error) => return Err(error),
         }
     }
-    Ok(Octets::from(bytes))
+    if bytes.is_empty() {
+        return Ok(Octets::new(alloc));
+    }
+    match Octets::from_vec(bytes) {
+        Ok(piece) => Ok(piece),
+        Err(_) => Err(ReadErr::OutOfMemory),
+    }
 }
 
 impl PatternPieces {

@@ -124,11 +124,11 @@ fn read_on(
                 from,
                 mark,
             },
-            text: Octets::from(text),
+            text: Octets::from_vec(text)?,
         });
     }
     push_line_end(&mut text, hex)?;
-    Ok(ends_with(Octets::from(text)))
+    Ok(ends_with(Octets::from_vec(text)?))
 }
 
 /// A capability was granted: `put` takes its first piece, `get` asks for its first one, `truncate` truncates.

@@ -1,14 +1,14 @@
 //! What can be asked: a call that is within the limits of its message.
-ghost use Rattle.std.specs.Prelude.{◌≡◌, ◌≤◌, ◌<◌, true, nat_le, length};
+ghost use Rattle.std.specs.Prelude.{◌≡◌, ◌≤◌, ◌<◌, ◌^◌, true, nat_le, length};
 ghost use Rattle.xt_base.specs.FieldLimits.{AreBytes, FitsBytes, FitsPath, FitsName};
-ghost use Rattle.xt_messages.specs.Limits.{FitsMetaReq, FitsRegistryReq, FitsStripe};
+ghost use Rattle.xt_messages.specs.Limits.{FitsMembers, FitsMetaReq, FitsRegistryReq, FitsStripe};
 ghost use Rattle.client_limits.specs.Fits.{FitsCall};
 ghost use Rattle.client_jobs.specs.Limits as limits;
 
-use xt_base::{COUNTS, Name};
+use xt_base::{COUNTS, Members, Name, NodeId};
 use xt_messages::{AskRefusal, Call, MetaReq, Refusal, RegistryReq, Status};
 
-/// How many objects have a number that a message holds.
+/// How many objects a command can write or read. A message has room for greater numbers.
 const NUMBERED: u64 = 1 << 32;
 
 /// Whether there are no more bytes than so many.
@@ -46,11 +46,27 @@ fn is_stripe(stripe: u32) -> bool
     1_024 <= stripe && stripe <= 131_072 && stripe % 1_024 == 0
 }
 
-/// Whether a message holds so many bytes, of an object with this number.
+/// Whether each node's number is below 2^32, as it always is.
+fn are_nodes(nodes: &[NodeId]) -> bool
+    ensures { result ≡ limits.are_nodes nodes.now }
+{
+    nodes.iter().all(|node| u64::from(node.0) < 1 << 32)
+}
+
+/// Whether the nodes are one to nine different ones.
+#[tactic(auto, using(crate::proofs::Nodes::nodes_fit))]
+fn are_members(nodes: &[NodeId]) -> bool
+    ensures value { result ≡ limits.are_listed nodes.now }
+    ensures fits { result ≡ true → FitsMembers nodes.now }
+{
+    are_nodes(nodes) && Members::new(nodes).is_ok()
+}
+
+/// Whether a command can read so many bytes of an object with this number.
 fn is_piece(object: u64, count: u64) -> bool
     ensures value { result ≡ limits.is_piece object count }
     ensures fits { result ≡ true →
-        (object < 4294967296) × (1 ≤ count) × (count ≤ 131072) }
+        (object < 2 ^ 64) × (1 ≤ count) × (count ≤ 131072) }
 {
     object < NUMBERED && 1 <= count && count <= 131_072
 }
@@ -79,9 +95,11 @@ fn fits_meta(request: &MetaReq) -> bool
             let _mode = *mode;
             is_path(path)
         }
-        MetaReq::Unlink { path } | MetaReq::Rmdir { path } | MetaReq::Stat { path } => {
-            is_path(path)
-        }
+        MetaReq::Change { path, nodes } => is_path(path) && are_members(nodes.as_slice()),
+        MetaReq::Unlink { path }
+        | MetaReq::Rmdir { path }
+        | MetaReq::Stat { path }
+        | MetaReq::Locate { path } => is_path(path),
     }
 }
 
@@ -115,11 +133,11 @@ fn fits_registry(request: &RegistryReq) -> bool
     }
 }
 
-/// Whether bytes are a piece of an object with this number that a message holds.
+/// Whether bytes are a piece that a command can write to an object with this number.
 fn is_written(object: u64, bytes: &[u8]) -> bool
     ensures value { result ≡ limits.is_piece object (length bytes.now) }
     ensures fits { result ≡ true →
-        (object < 4294967296) × FitsBytes bytes.now × (1 ≤ length bytes.now) }
+        (object < 2 ^ 64) × FitsBytes bytes.now × (1 ≤ length bytes.now) }
 {
     let few = are_few(bytes, 131_072);
     object < NUMBERED && !bytes.is_empty() && few

@@ -140,7 +140,7 @@ pub fn row_line(
     push_spaced(alloc, &mut line, mark.epoch)?;
     push_spaced(alloc, &mut line, mark.size)?;
     line.push(b'\n')?;
-    Ok(Octets::from(line))
+    Octets::from_vec(line)
 }
 
 /// A line with a number in decimal.
@@ -150,7 +150,7 @@ pub fn number_line(alloc: Global, number: u64) -> Result<Octets, OutOfMemory>
     let mut line = Vec::new(alloc);
     push_number(alloc, &mut line, number)?;
     line.push(b'\n')?;
-    Ok(Octets::from(line))
+    Octets::from_vec(line)
 }
 
 /// Appends a name and a line end.
@@ -170,5 +170,5 @@ pub fn lines_of(alloc: Global, names: &[Name]) -> Result<Octets, OutOfMemory>
     for name in names {
         push_name(&mut text, name)?;
     }
-    Ok(Octets::from(text))
+    Octets::from_vec(text)
 }

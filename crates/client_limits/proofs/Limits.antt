@@ -248,11 +248,8 @@ reply_to_fits held (request.Meta user group asked) target from content all is fi
 reply_to_fits held (request.Registry asked) target from content all is fits = waits_on_fits
 
 granted_fits : (told : MetaAnswer) → FitsMetaAnswer told → LearntFits (waiting.granted told)
-granted_fits answer.Done fits = tt
-granted_fits (answer.Refused why) fits = tt
-granted_fits (answer.Names names) fits = tt
-granted_fits (answer.Row kind owner group mode mark) fits = tt
 granted_fits (answer.Granted capability mark) fits = fits
+granted_fits _ fits = tt
 
 meta_fits : (asked : Request) (told : MetaAnswer) → FitsMetaAnswer told → GoesFits (waiting.meta_comes asked told)
 meta_fits (request.Replicated capability asked) told fits = waits_on_fits

@@ -136,10 +136,7 @@ module _ (IsHeld : ℕ → Capability → Type 0) where
 
   granted_learns : (told : MetaAnswer) → AnswerGrants IsHeld told → LearntIs (waiting.granted told)
   granted_learns (answer.Granted capability size) is = is
-  granted_learns answer.Done is = tt
-  granted_learns (answer.Refused why) is = tt
-  granted_learns (answer.Names names) is = tt
-  granted_learns (answer.Row how owner group mode mark) is = tt
+  granted_learns _ is = tt
 
   -- what a metadata server answers to another request isn't heard
   told_learns : (asked : Request) (told : MetaAnswer) → ((user group : ℕ) (wanted : MetaReq) → asked ≡ request.Meta user group wanted → AnswerGrants IsHeld told)

@@ -97,12 +97,16 @@ who_of base rows =
 
 -- ---- the work of clients
 
+-- A node that may be registered: no node has the number 0, and the directory service isn't in its own registry.
+unfoldable pub registered_at : Rows → Option NodeId
+registered_at rows = option_and_then (λ node. if not (node.0 == 0) && not (node.0 == 900) then Some node else None) (node_at (codes "node") rows)
+
 unfoldable pub register_of : Rows → Option Order
 register_of rows =
     option_and_then (λ node. option_and_then (λ kind. option_map (λ address. order.Register node kind address)
     (address_at (codes "addr") rows))
     (number_at 1 2 (codes "kind") rows))
-    (node_at (codes "node") rows)
+    (registered_at rows)
 
 unfoldable pub mv_of : Rows → Option Order
 mv_of rows =

@@ -129,6 +129,8 @@ out_of_range =
     codes "cluster --osds 1 --port 65001 --store s --key 00ff" ∷
     codes "cluster --osds 1 --port 1 --store s" ∷
     codes "register 4294967296 1 a --dir 127.0.0.1:7400" ∷
+    codes "register 0 1 a --dir 127.0.0.1:7400" ∷
+    codes "register 900 1 a --dir 127.0.0.1:7400" ∷
     codes "register 1 0 a --dir 127.0.0.1:7400" ∷
     codes "register 1 3 a --dir 127.0.0.1:7400" ∷
     codes "register 1 1 aaaaaaaaaaaaaaaaaaaaaaaaaaaaaaaaaaaaaaaaaaaaaaaaaaaaaaaaaaaaaaaaa --dir 127.0.0.1:7400" ∷

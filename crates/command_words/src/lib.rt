@@ -12,6 +12,8 @@ mod reading;
 mod words;
 mod worked;
 
+pub use commands::program;
 pub use job::{ClientJob, ClusterJob, Defaults, Given, Job, Layout, Order, Serving, Settings, Who};
-pub use words::{help_text, read_words};
+pub use ranges::{is_key, mode_of, number_in};
+pub use words::read_words;
 pub use worked::worked_words;

@@ -2,7 +2,7 @@
 
 ghost use Rattle.std.specs.Prelude.{◌≡◌, ◌≤◌, IfSome, IfOk, codes, option_map};
 ghost use Rattle.clap.specs.Words.{first_of, subcommand_rows_of};
-ghost use Rattle.command_words.specs.Jobs.{rows_in, number_at, number_or_at, number_if_at, node_at, node_or_at, path_at, address_at, mode_at, settings_of, who_of, register_of, mv_of, chmod_of, mkdir_of, rmdir_of, rm_of, ls_of, stat_of, flag_at, key_at, key_if_at, layout_at, stripe_at, pattern_at, put_of, range_at, get_of, truncate_of, file_order, order_of, directory_at, client_of, serving_of, make_of, osd_of, mrc_of, dir_of, given_of, cluster_of, node_job, job_in, chosen_in};
+ghost use Rattle.command_words.specs.Jobs.{rows_in, number_at, number_or_at, number_if_at, node_at, node_or_at, path_at, address_at, mode_at, settings_of, who_of, registered_at, register_of, mv_of, chmod_of, mkdir_of, rmdir_of, rm_of, ls_of, stat_of, flag_at, key_at, key_if_at, layout_at, stripe_at, pattern_at, put_of, range_at, get_of, truncate_of, file_order, order_of, directory_at, client_of, serving_of, make_of, osd_of, mrc_of, dir_of, given_of, cluster_of, node_job, job_in, chosen_in};
 ghost use Rattle.std.specs.Str.{bytes_eq};
 
 use crate::job::{
@@ -11,7 +11,7 @@ use crate::job::{
 use crate::ranges::{address_of, key_of, mode_of, name_of, number_in, times_of};
 use clap::ArgMatches;
 use std::alloc::Global;
-use xt_base::{Address, Name, NodeId, Octets, OutOfMemory};
+use xt_base::{Address, DIR_NODE, Name, NodeId, Octets, OutOfMemory};
 
 /// The text of an argument.
 fn text_at<'a>(found: &ArgMatches<'a>, id: &str) -> Option<&'a str>
@@ -189,12 +189,25 @@ pub(crate) fn who_of(base: &Who, found: &ArgMatches<'_>) -> Option<Who>
     })
 }
 
+/// The node that is to be registered: not 0, which is no node's number, and not the DIR, which isn't in its own registry.
+#[tactic(auto, unfolding(crate::specs::Jobs::registered_at))]
+fn registered_at(found: &ArgMatches<'_>) -> Option<NodeId>
+    ensures { result ≡ registered_at (rows_in found.now) }
+{
+    let node = node_at(found, "node")?;
+    if node.0 != 0 && node != DIR_NODE {
+        Some(node)
+    } else {
+        None
+    }
+}
+
 /// `register`
 #[tactic(auto, unfolding(crate::specs::Jobs::register_of))]
 pub(crate) fn register_of(found: &ArgMatches<'_>) -> Option<Order>
     ensures { result ≡ register_of (rows_in found.now) }
 {
-    let node = node_at(found, "node")?;
+    let node = registered_at(found)?;
     let kind = byte_at(found, "kind", 1, 2)?;
     let address = address_at(found, "addr")?;
     Some(Order::Register {

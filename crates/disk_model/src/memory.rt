@@ -82,7 +82,10 @@ impl MemoryDisk {
     {
         match self.plan.stop {
             Some(stop) => self.filled(stop.fill),
-            None => Ok(Octets::from(self.bytes()?)),
+            None => {
+                let image = Octets::from_vec(self.bytes()?)?;
+                Ok(image)
+            }
         }
     }
 
@@ -93,7 +96,8 @@ impl MemoryDisk {
         let mut bytes = self.bytes()?;
         let (_, notes) = self.notes.as_slice().split_at(self.synced_notes);
         fill_unsynced(bytes.as_mut_slice(), self.synced_length, notes, fill);
-        Ok(Octets::from(bytes))
+        let image = Octets::from_vec(bytes)?;
+        Ok(image)
     }
 
     /// The bytes that a read gives.

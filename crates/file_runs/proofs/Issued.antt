@@ -43,14 +43,6 @@ module _ (stripe : ℕ) (ops : ℕ × ℕ → Op) (file : ℕ) where
   no_issue n id count bytes (WriteOk node c i) is m d k p = cc
 
   adds : (e : Entry) (before after : List heads.Entry) → TellsOne stripe ops file e before after → Adds e before after
-  adds (entry.Times lease drift) before after told = inl told
-  adds (entry.File number location) before after told = inl told
-  adds (entry.Clock node clock) before after told = inl told
-  adds (entry.Tick count) before after told = inl told
-  adds (entry.Up node boot clock) before after told = inl told
-  adds (entry.Down node clock how) before after told = inl told
-  adds (entry.Begin client number call) before after told = inl told
-  adds (entry.Held node f end) before after told = inl told
   adds (entry.Active node f count id) before after told = at (f == file) told
     where
       at : (here : Bool) → after ≡ (if here then TellsActive node.0 count (name_of id) ∷ before else before) → Adds (entry.Active node f count id) before after
@@ -81,7 +73,7 @@ module _ (stripe : ℕ) (ops : ℕ × ℕ → Op) (file : ℕ) where
       at : (here : Bool) → AnswerTells stripe ops node.0 id count bytes before after here → Adds (entry.Answer node f id count bytes) before after
       at true (x, is, told) = inr (x, told, λ n c k p. absurd (no_issue node.0 id count bytes x is n c k p))
       at false told = inl told
-  adds (entry.Done client number outcome) before after told = inl told
+  adds _ before after told = inl told
 
   -- what was issued first was so before
   was : (e : Entry) (before after : List heads.Entry) → Adds e before after → IssuesComeFirst [] [] after → IssuesComeFirst [] [] before

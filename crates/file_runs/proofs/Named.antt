@@ -8,6 +8,7 @@ use Rattle.xt_messages.specs.declared.record.FileRow.{FileRow}
 use Rattle.xt_messages.specs.declared.record.Record.{Record}
 use Rattle.xt_protocol.specs.LeaseRows.{LeaseState}
 use Rattle.xt_protocol.specs.FileStates.{FileState, Site, FileStep, file_from}
+use Rattle.xt_protocol.specs.ReplicaRows.{kept_after, stage_record}
 use Rattle.lease_runs.specs.ActsView.{AreActs, MarksAre, no_marks, won, acting}
 use Rattle.lease_runs.proofs.ActSteps.{step_marks, wake_step_marks}
 use Rattle.replica_runs.proofs.Replicas.{same_file}
@@ -15,7 +16,7 @@ use Rattle.replica_safety.specs.Epochs.{at_node}
 use Rattle.replica_safety.specs.Lists.{AreDistinct}
 use Rattle.replica_safety.specs.Rules.{Start}
 use Rattle.replica_runs.proofs.Tools.{by_node, some_node}
-use Rattle.file_runs.specs.FileRuns.{FileNode, Tale, FileWorld, Happening, message, wake, step_on, Ending, goes_on, stops, stops_kept, stops_lost, Event, acts, starts, forgets, lapses, keeping, acted, after, May, MayAll, after_all}
+use Rattle.file_runs.specs.FileRuns.{FileNode, Tale, FileWorld, Happening, message, wake, step_on, Ending, goes_on, stops, stops_kept, stops_lost, Event, acts, starts, forgets, lapses, takes, gets, drops, raises, stores, joins, parts, keeping, raised, acted, after, May, MayAll, after_all}
 use Rattle.file_runs.proofs.Runs.{Inv, Up, Shape, next_inv}
 
 -- a mark that acts on a file acts on this one
@@ -36,14 +37,11 @@ TalesAreOf file (t ∷ ts) = AreOf file t.marks × TalesAreOf file ts
 
 of_acts : (file n : ℕ) (ms : List Mark) → n ≡ file → AreActs n ms → AreOf file ms
 of_acts file n [] is are = tt
-of_acts file n (mark.File f location ∷ ms) is are = (tt, of_acts file n ms is are.1)
-of_acts file n (mark.Begin number c ∷ ms) is are = (tt, of_acts file n ms is are.1)
-of_acts file n (mark.Held f end ∷ ms) is are = (tt, of_acts file n ms is are.1)
 of_acts file n (mark.Active f count id ∷ ms) is are = (some_node are.0 ∙ is, of_acts file n ms is are.1)
 of_acts file n (mark.Issue f count id ∷ ms) is are = (some_node are.0 ∙ is, of_acts file n ms is are.1)
 of_acts file n (mark.Commit f count id ∷ ms) is are = (some_node are.0 ∙ is, of_acts file n ms is are.1)
 of_acts file n (mark.Answer f id count bytes ∷ ms) is are = (some_node are.0 ∙ is, of_acts file n ms is are.1)
-of_acts file n (mark.Done number outcome ∷ ms) is are = (tt, of_acts file n ms is are.1)
+of_acts file n (_ ∷ ms) is are = (tt, of_acts file n ms is are.1)
 
 of_marks : (file : ℕ) (f : FileId) (l : LeaseState) (ms : List Mark) → f.number ≡ file → MarksAre f l ms → AreOf file ms
 of_marks file f l ms is (no_marks none) = subst (AreOf file) (sym none) tt
@@ -82,6 +80,19 @@ module _ (stripe : ℕ) (some : 0 < stripe) (ops : ℕ × ℕ → Op) (members :
   next w (forgets n s held body) may inv (are, told) =
       (for_node file w.nodes n (record { state = Some (record s { kept = record s.kept { held = held } }); kept = record (w.nodes n).kept { held = held }; body = body }) (are n) are, told)
   next w (lapses n) may inv named = named
+  next w (takes n s o v bytes) may inv (are, told) =
+      let rec = stage_record (w.nodes n).kept.file (w.nodes n).kept.held o v bytes in
+      (for_node file w.nodes n (keeping (w.nodes n) (Some (record s { kept = kept_after s.kept rec })) rec) (kept_for w n rec are) are, told)
+  next w (gets n o v bytes) may inv (are, told) =
+      let rec = stage_record (w.nodes n).kept.file (w.nodes n).kept.held o v bytes in
+      (for_node file w.nodes n (keeping (w.nodes n) None rec) (kept_for w n rec are) are, told)
+  next w (drops n held body) may inv (are, told) =
+      (for_node file w.nodes n (record { state = None; kept = record (w.nodes n).kept { held = held }; body = body }) (are n) are, told)
+  next w (raises n e) may inv (are, told) = (for_node file w.nodes n (record { state = None; kept = raised (w.nodes n).kept e; body = (w.nodes n).body }) (are n) are, told)
+  next w (stores n kept) may inv (are, told) =
+      (for_node file w.nodes n (record { state = None; kept = kept; body = (w.nodes n).body }) (ap (λ (f : FileId). f.number) may.file ∙ are n) are, told)
+  next w (joins n s) may inv (are, told) = (for_node file w.nodes n (record (w.nodes n) { state = Some s }) (are n) are, told)
+  next w (parts n) may inv (are, told) = (for_node file w.nodes n (record (w.nodes n) { state = None }) (are n) are, told)
 
   pub all_named : (w : FileWorld) (es : List Event) → MayAll stripe ops members w es → Inv stripe some ops members distinct start w → Named w → Named (after_all w es)
   all_named w [] may inv named = named

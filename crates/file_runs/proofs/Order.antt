@@ -53,14 +53,6 @@ module _ (stripe : ℕ) (ops : ℕ × ℕ → Op) (file : ℕ) where
   answered n id count bytes (WriteOk node c i) before is = refl
 
   pub one : (e : Entry) (order : List OpId) (before after : List heads.Entry) → TellsOne stripe ops file e before after → Same order before → Same (order_by order (claim_on file e)) after
-  one (entry.Times lease drift) order before after told same = same_after order before after told same
-  one (entry.File number location) order before after told same = same_after order before after told same
-  one (entry.Clock node clock) order before after told same = same_after order before after told same
-  one (entry.Tick count) order before after told same = same_after order before after told same
-  one (entry.Up node boot clock) order before after told same = same_after order before after told same
-  one (entry.Down node clock how) order before after told same = same_after order before after told same
-  one (entry.Begin client number call) order before after told same = same_after order before after told same
-  one (entry.Held node f end) order before after told same = same_after order before after told same
   one (entry.Active node f count id) order before after told same = at (f == file) told
     where
       at : (here : Bool) → after ≡ (if here then TellsActive node.0 count (name_of id) ∷ before else before) → Same (order_by order (if here then Some (let c : Claim = record { count = count; id = id } in c) else None)) after
@@ -81,7 +73,7 @@ module _ (stripe : ℕ) (ops : ℕ × ℕ → Op) (file : ℕ) where
       at : (here : Bool) → AnswerTells stripe ops node.0 id count bytes before after here → Same order after
       at true (x, is, told) = same ∙ sym (ap (order_of []) told ∙ answered node.0 id count bytes x before is)
       at false told = same_after order before after told same
-  one (entry.Done client number outcome) order before after told same = same_after order before after told same
+  one _ order before after told same = same_after order before after told same
 
   pub all : (entries : List Entry) (order : List OpId) (before after : List heads.Entry) → Tells stripe ops file entries before after → Same order before → Same (fold (λ (o : List OpId) e. order_by o (claim_on file e)) order entries) after
   all [] order before after told same = same_after order before after told same
@@ -92,14 +84,6 @@ module _ (stripe : ℕ) (ops : ℕ × ℕ → Op) (file : ℕ) where
   Holds es = AreOnOneOrder stripe ops [] es
 
   was : (e : Entry) (before after : List heads.Entry) → TellsOne stripe ops file e before after → Holds after → Holds before
-  was (entry.Times lease drift) before after told holds = subst Holds told holds
-  was (entry.File number location) before after told holds = subst Holds told holds
-  was (entry.Clock node clock) before after told holds = subst Holds told holds
-  was (entry.Tick count) before after told holds = subst Holds told holds
-  was (entry.Up node boot clock) before after told holds = subst Holds told holds
-  was (entry.Down node clock how) before after told holds = subst Holds told holds
-  was (entry.Begin client number call) before after told holds = subst Holds told holds
-  was (entry.Held node f end) before after told holds = subst Holds told holds
   was (entry.Active node f count id) before after told holds = at (f == file) (subst Holds told holds)
     where
       at : (here : Bool) → Holds (if here then TellsActive node.0 count (name_of id) ∷ before else before) → Holds before
@@ -120,7 +104,7 @@ module _ (stripe : ℕ) (ops : ℕ × ℕ → Op) (file : ℕ) where
       at : (here : Bool) → AnswerTells stripe ops node.0 id count bytes before after here → Holds before
       at true (x, is, told) = (subst Holds told holds).2
       at false told = subst Holds told holds
-  was (entry.Done client number outcome) before after told holds = subst Holds told holds
+  was _ before after told holds = subst Holds told holds
 
   pub was_all : (entries : List Entry) (before after : List heads.Entry) → Tells stripe ops file entries before after → Holds after → Holds before
   was_all [] before after told holds = subst Holds told holds
@@ -131,14 +115,6 @@ module _ (stripe : ℕ) (ops : ℕ × ℕ → Op) (file : ℕ) where
   Ends es claim = IsEnd (order_of [] es) claim.count (name_of claim.id)
 
   ends : (e : Entry) (before after : List heads.Entry) (claim : Claim) → TellsOne stripe ops file e before after → claim_on file e ≡ Some claim → Holds after → Ends after claim
-  ends (entry.Times lease drift) before after claim told is holds = absurd (cc)
-  ends (entry.File number location) before after claim told is holds = absurd (cc)
-  ends (entry.Clock node clock) before after claim told is holds = absurd (cc)
-  ends (entry.Tick count) before after claim told is holds = absurd (cc)
-  ends (entry.Up node boot clock) before after claim told is holds = absurd (cc)
-  ends (entry.Down node clock how) before after claim told is holds = absurd (cc)
-  ends (entry.Begin client number call) before after claim told is holds = absurd (cc)
-  ends (entry.Held node f end) before after claim told is holds = absurd (cc)
   ends (entry.Active node f count id) before after claim told is holds = at (f == file) told is
     where
       at : (here : Bool) → after ≡ (if here then TellsActive node.0 count (name_of id) ∷ before else before) → (if here then Some (let c : Claim = record { count = count; id = id } in c) else None) ≡ Some claim → Ends after claim
@@ -146,7 +122,6 @@ module _ (stripe : ℕ) (ops : ℕ × ℕ → Op) (file : ℕ) where
           (let same : (let c : Claim = record { count = count; id = id } in c) ≡ claim = cc in
           subst (Ends after) same (subst (λ es. IsEnd (order_of [] es) count (name_of id)) (sym told) (subst Holds told holds).0))
       at false told is = absurd (cc)
-  ends (entry.Issue node f count id) before after claim told is holds = absurd (cc)
   ends (entry.Commit node f count id) before after claim told is holds = at (f == file) told is
     where
       at : (here : Bool) → after ≡ (if here then TellsCommit node.0 count (name_of id) ∷ before else before) → (if here then Some (let c : Claim = record { count = count; id = id } in c) else None) ≡ Some claim → Ends after claim
@@ -154,8 +129,7 @@ module _ (stripe : ℕ) (ops : ℕ × ℕ → Op) (file : ℕ) where
           (let same : (let c : Claim = record { count = count; id = id } in c) ≡ claim = cc in
           subst (Ends after) same (subst (λ es. IsEnd (order_of [] es) count (name_of id)) (sym told) (subst Holds told holds).0))
       at false told is = absurd (cc)
-  ends (entry.Answer node f id count bytes) before after claim told is holds = absurd (cc)
-  ends (entry.Done client number outcome) before after claim told is holds = absurd (cc)
+  ends _ before after claim told is holds = absurd (cc)
 
   -- an order that ends so agrees with the claim
   borne : (order : List OpId) (claim : Claim) → IsEnd (map name_of order) claim.count (name_of claim.id) → Bears order claim

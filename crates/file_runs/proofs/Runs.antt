@@ -1,5 +1,6 @@
 -- Every run of a file is a run of a world of heads.
-use Rattle.std.proofs.Common.{◌≡◌, ℕ, ◌<◌, ◌⊎◌, true, List, [], ◌∷◌, ◌++◌, refl, sym, ap, ap₂, ◌∙◌, subst, inl, inr, if◌then◌else◌, Option, Some, None}
+use Rattle.std.specs.Prelude.{cond, flat_map}
+use Rattle.std.proofs.Common.{◌≡◌, ℕ, ◌<◌, ◌⊎◌, Bool, true, List, [], ◌∷◌, ◌++◌, refl, sym, ap, ap₂, ◌∙◌, subst, inl, inr, if◌then◌else◌, Option, Some, None}
 use Rattle.xt_base.specs.declared.ids.NodeId.{NodeId}
 use Rattle.xt_base.specs.declared.ids.Epoch.{Epoch}
 use Rattle.xt_base.specs.declared.ids.FileId.{FileId}
@@ -20,12 +21,13 @@ use Rattle.osd_invariants.proofs.Kept.{expired_follows}
 use Rattle.osd_invariants.proofs.SoundSteps.{start_so, expired_so, step_so, wake_so}
 use Rattle.lease_runs.specs.ActsView.{ListAsked, RecordIs}
 use Rattle.lease_runs.proofs.ActSteps.{step_rec, wake_step_rec}
+use Rattle.xt_protocol.specs.Folds.{body_of}
 use Rattle.xt_protocol.specs.FileStates.{FileState, Site, FileStep, file_from}
 use Rattle.xt_protocol.specs.FileSteps.{step_of_file}
 use Rattle.xt_protocol.specs.Forgetting.{versions_if, versions_led, versions_under}
 use Rattle.xt_protocol.specs.PrimaryRows.{body_beyond}
-use Rattle.xt_protocol.specs.ReplicaRows.{kept_after}
-use Rattle.xt_protocol.specs.Stamps.{has_version}
+use Rattle.xt_protocol.specs.ReplicaRows.{kept_after, stage_record}
+use Rattle.xt_protocol.specs.Stamps.{is_earlier, has_version, with_held}
 use Rattle.xt_protocol.specs.Turns.{quiet}
 use Rattle.xt_protocol.specs.declared.states.Progress.{Progress}
 use Rattle.xt_protocol.specs.declared.states.Progress.TheVariants as progress
@@ -34,9 +36,9 @@ use Rattle.replica_safety.specs.Epochs.{at_node}
 use Rattle.replica_safety.specs.Lists.{Has, AreDistinct}
 use Rattle.replica_safety.specs.Rules.{Start}
 use Rattle.replica_safety.proofs.Lists.{has-append}
-use Rattle.replica_runs.specs.HeadSteps.{Step, Loses, Forgets, MayAll, after_steps, AreKept, served_versions}
+use Rattle.replica_runs.specs.HeadSteps.{Step, Loses, StoresElse, Raises, KeepsBody, Forgets, MayAll, after_steps, AreKept, served_versions}
 use Rattle.replica_runs.specs.HeadSteps as heads
-use Rattle.replica_runs.specs.HeadWorld.{Node, Idle, Message, Status, shown, Entry, Local, local, put, BeginsAt}
+use Rattle.replica_runs.specs.HeadWorld.{Node, Idle, Message, Piece, Status, shown, Entry, Local, local, put, BeginsAt}
 use Rattle.replica_runs.specs.HeadWorld as world
 use Rattle.replica_runs.specs.Made.{IsMade}
 use Rattle.replica_runs.specs.Marks.{Begins}
@@ -44,16 +46,16 @@ use Rattle.replica_runs.specs.Steps.{without}
 use Rattle.replica_runs.proofs.HeadLine.{entries_fit_there, order_of_changes, issues_first_there}
 use Rattle.replica_runs.proofs.HeadRun.{turns_there, begins_there}
 use Rattle.replica_runs.proofs.HeadStands.{IsReached}
-use Rattle.replica_runs.proofs.Tools.{by_node, at_own}
+use Rattle.replica_runs.proofs.Tools.{by_node, by_test, at_own}
 use Rattle.replica_runs.specs.FileView.{FileReaches, seen_of, settled, IsList, ListFits, IsOrderly, IsFree, AskComes, ShowsFile, Stops}
 use Rattle.replica_runs.specs.Seen.{Seen, local_of, primary_of, leads_as, AreIn, NamesHeld, OwnFits, ProgressFits, TenureFits, Fits}
 use Rattle.replica_runs.proofs.AskSteps.{none_fit, expired_fit, step_fit, wake_fit}
-use Rattle.replica_runs.proofs.Choosing.{not_after_loss}
+use Rattle.replica_runs.proofs.Choosing.{not_after_loss, staged_held}
 use Rattle.replica_runs.proofs.Files.{expired_none, expired_tenure, files_show}
-use Rattle.replica_runs.proofs.Replicas.{peers_grow}
-use Rattle.replica_runs.proofs.Sending.{are_in, in_are, map_has, steps_append, may_append}
+use Rattle.replica_runs.proofs.Replicas.{stage_grows, same_file, tenure_grows, peers_grow}
+use Rattle.replica_runs.proofs.Sending.{are_in, in_are, flat_has, has_flat, map_has, steps_append, may_append}
 use Rattle.replica_runs.proofs.Stopping.{stops, lost, others_same, statuses_before}
-use Rattle.file_runs.specs.FileRuns.{FileNode, Sent, Tale, FileWorld, Happening, message, wake, step_on, Ending, goes_on, stops_kept, stops_lost, Event, acts, starts, forgets, lapses, OwnComes, OwnTells, sent_by, holder_after, keeping, acted, after, Comes, MayEnd, MayAct, May, after_all, BeginsFile, Tells, IsOnOneOrder}
+use Rattle.file_runs.specs.FileRuns.{FileNode, Sent, Tale, FileWorld, Happening, message, wake, step_on, Ending, goes_on, stops_kept, stops_lost, Event, acts, starts, forgets, lapses, takes, gets, drops, raises, stores, joins, parts, OwnComes, OwnTells, sent_by, holder_after, keeping, acted, after, Comes, MayEnd, MayAct, May, after_all, BeginsFile, Tells, IsOnOneOrder}
 use Rattle.file_runs.specs.FileRuns as runs
 
 -- a file is sound whatever is held of it
@@ -182,8 +184,7 @@ module _ (stripe : ℕ) (some : 0 < stripe) (ops : ℕ × ℕ → Op) (members :
   list_after row file from content (Some (kept.Update f update)) is known fits = fits
   list_after row file from content (Some (kept.Stage f object version bytes)) is known fits = fits
   list_after row file from content (Some (kept.Head f head)) is known fits = fits
-  list_after row file from content (Some (kept.Boot boot)) is known fits = absurd is
-  list_after row file from content (Some (kept.Meta sender number now nodes request)) is known fits = absurd is
+  list_after row file from content (Some _) is known fits = absurd is
 
   module _ (w : FileWorld) (inv : Inv w) (n : ℕ) (s : FileState) (site : Site) (happens : Happening) (how : Ending) (may : MayAct stripe ops members w n s site happens how) (u : Up (w.nodes n) inv.world n s) where
     abbrev v : world.World
@@ -617,11 +618,222 @@ module _ (stripe : ℕ) (some : 0 < stripe) (ops : ℕ × ℕ → Op) (members :
           (λ ne. shape_on (w.nodes m) inv.world behind_it m (w.nodes m).state (leaves m ne) (inv.nodes m));
     }
 
+  -- ---- a node that doesn't run
+
+  -- one small step of it
+  module _ (w : FileWorld) (inv : Inv w) (n : ℕ) (x2 : FileNode) (z : Step) where
+    abbrev resting_b : Seen
+    resting_b = seen_at x2 inv.world None
+
+    abbrev resting_l : Local
+    resting_l = local_of (seen_at (w.nodes n) inv.world None)
+
+    resting : (w.nodes n).state ≡ None → x2.state ≡ None → heads.May stripe ops members n resting_l z → heads.after n resting_l z ≡ local_of resting_b
+        → NamesHeld x2.kept.held x2.kept.head.versions → ListFits stripe members x2.kept.location → Inv (record w { nodes = at_node n x2 w.nodes })
+    resting rests still may leads names list = record {
+      world = behind inv.world n resting_b;
+      reached = goes_reached inv.world n resting_b g inv.reached;
+      holder = inv.holder;
+      sent = inv.sent;
+      told = inv.told;
+      nodes = goes_nodes w.nodes inv.world n resting_b x2 g inv.nodes (subst (Shape x2 (behind inv.world n resting_b) n) (sym still) (record {
+        node = at_own inv.world.nodes n (local_of resting_b).node;
+        fits = record { names = names; tenure = down.fits.tenure };
+        list = list;
+      }));
+    }
+      where
+        down : Down (w.nodes n) inv.world n
+        down = subst (Shape (w.nodes n) inv.world n) rests (inv.nodes n)
+
+        local_is : local inv.world n ≡ resting_l
+        local_is = ap (λ (k : Node). record { node = k; holder = inv.world.holder; sent = inv.world.sent; entries = inv.world.entries }) down.node
+
+        g : Goes inv.world n resting_b
+        g = record {
+          steps = z ∷ [];
+          may = (subst (λ l. heads.May stripe ops members n l z) (sym local_is) may, tt);
+          leads = ap (λ l. heads.after n l z) local_is ∙ leads;
+          grows = λ k h. h;
+        }
+
+  down_at : (w : FileWorld) (inv : Inv w) (n : ℕ) → (w.nodes n).state ≡ None → Down (w.nodes n) inv.world n
+  down_at w inv n is = subst (Shape (w.nodes n) inv.world n) is (inv.nodes n)
+
+  -- a body is staged: what is named is held, and the list is the same
+  staged_names : (row : FileRow) (o : ℕ) (v : Stamp) (bytes : List ℕ) → NamesHeld row.held row.head.versions
+      → let after = kept_after row (stage_record row.file row.held o v bytes) in NamesHeld after.held after.head.versions
+  staged_names row o v bytes names =
+      by_test (λ b. let after = kept_after row (cond b None (Some (kept.Stage row.file o v bytes))) in NamesHeld after.held after.head.versions) (has_version row.held (body_of o v))
+      (λ _. names) (λ _. staged_held row.held row.head.versions (body_of o v) names)
+
+  staged_list : (row : FileRow) (o : ℕ) (v : Stamp) (bytes : List ℕ) → ListFits stripe members row.location
+      → ListFits stripe members (kept_after row (stage_record row.file row.held o v bytes)).location
+  staged_list row o v bytes list =
+      by_test (λ b. ListFits stripe members (kept_after row (cond b None (Some (kept.Stage row.file o v bytes)))).location) (has_version row.held (body_of o v))
+      (λ _. list) (λ _. list)
+
+  gets_inv : (w : FileWorld) (inv : Inv w) (n o : ℕ) (v : Stamp) (bytes : List ℕ) → (w.nodes n).state ≡ None → runs.IsBrought w o v bytes → Inv (after w (gets n o v bytes))
+  gets_inv w inv n o v bytes is by =
+      resting w inv n (keeping (w.nodes n) None (stage_record (w.nodes n).kept.file (w.nodes n).kept.held o v bytes)) (KeepsBody o v bytes) is refl
+      (in_are (shown by.by.from by.by.content) inv.world.sent (inv.sent by.by by.sent) (Piece o v bytes) by.brings) refl
+      (staged_names (w.nodes n).kept o v bytes (down_at w inv n is).fits.names) (staged_list (w.nodes n).kept o v bytes (down_at w inv n is).list)
+
+  drops_inv : (w : FileWorld) (inv : Inv w) (n : ℕ) (held : List ObjectVersion) (body : ℕ → Stamp → List ℕ) → runs.MayDrop w n held body → Inv (after w (drops n held body))
+  drops_inv w inv n held body may =
+      resting w inv n (record { state = None; kept = record (w.nodes n).kept { held = held }; body = body }) (Forgets held body) may.rests refl
+      (record { less = may.less; same = may.same; head = may.head; served = λ v h. absurd h }) refl
+      (λ v h. may.head v h ((down_at w inv n may.rests).fits.names v h)) (down_at w inv n may.rests).list
+
+  raises_inv : (w : FileWorld) (inv : Inv w) (n : ℕ) (e : Epoch) → (w.nodes n).state ≡ None → is_earlier (w.nodes n).kept.head.promised e ≡ true → Inv (after w (raises n e))
+  raises_inv w inv n e is above =
+      resting w inv n (record { state = None; kept = runs.raised (w.nodes n).kept e; body = (w.nodes n).body }) (Raises e) is refl above refl
+      (down_at w inv n is).fits.names (down_at w inv n is).list
+
+  stores_inv : (w : FileWorld) (inv : Inv w) (n : ℕ) (row : FileRow) → runs.MayStore stripe members w n row → Inv (after w (stores n row))
+  stores_inv w inv n row may =
+      resting w inv n (record { state = None; kept = row; body = (w.nodes n).body }) (StoresElse row) may.rests refl (may.head, may.held) refl
+      (names row.held row.head (w.nodes n).kept.held (w.nodes n).kept.head may.held may.head (down_at w inv n may.rests).fits.names) may.list
+    where
+      names : (h : List ObjectVersion) (f : FileHead) (k : List ObjectVersion) (g : FileHead) → h ≡ k → f ≡ g → NamesHeld k g.versions → NamesHeld h f.versions
+      names h f k g same is all = subst (λ vs. NamesHeld vs f.versions) (sym same) (subst (λ (d : FileHead). NamesHeld k d.versions) (sym is) all)
+
+  -- a node that runs keeps a body
+  takes_inv : (w : FileWorld) (inv : Inv w) (n : ℕ) (s : FileState) (o : ℕ) (v : Stamp) (bytes : List ℕ) → (w.nodes n).state ≡ Some s → runs.IsBrought w o v bytes → Inv (after w (takes n s o v bytes))
+  takes_inv w inv n s o t bytes is by = record {
+    world = behind v n b;
+    reached = goes_reached v n b g inv.reached;
+    holder = inv.holder;
+    sent = inv.sent;
+    told = inv.told;
+    nodes = goes_nodes w.nodes v n b x2 g inv.nodes (record {
+      same = ap (λ (k : FileRow). kept_after k rec) u.same;
+      orderly = record {
+        sound = by_test (λ c. IsSound (record s { kept = kept_after s.kept (staged c) })) (has_version x.kept.held (body_of o t))
+            (λ _. u.orderly.sound) (λ _. held_so s (with_held s.kept.held (body_of o t)) u.orderly.sound);
+        list = by_test (λ c. ListFits stripe members (kept_after s.kept (staged c)).location) (has_version x.kept.held (body_of o t))
+            (λ _. u.orderly.list) (λ _. u.orderly.list);
+        asks = u.orderly.asks;
+      };
+      tenure = u.tenure;
+      either = u.either;
+      node = at_own v.nodes n (local_of b).node;
+      fits = record {
+        names = staged_names x.kept o t bytes u.fits.names;
+        tenure = tenure_grows members n (seen_at x v u.tenure) (seen_at x2 (behind v n b) u.tenure) u.tenure refl (same_file x.kept rec) (stage_grows x.kept o t bytes) (λ k h. h) u.fits.tenure;
+      };
+    });
+  }
+    where
+      v : world.World
+      v = inv.world
+
+      x : FileNode
+      x = w.nodes n
+
+      staged : Bool → Option Record
+      staged c = cond c None (Some (kept.Stage x.kept.file o t bytes))
+
+      rec : Option Record
+      rec = stage_record x.kept.file x.kept.held o t bytes
+
+      x2 : FileNode
+      x2 = keeping x (Some (record s { kept = kept_after s.kept rec })) rec
+
+      u : Up x v n s
+      u = subst (Shape x v n) is (inv.nodes n)
+
+      b : Seen
+      b = seen_at x2 v u.tenure
+
+      local_is : local v n ≡ local_of (seen_at x v u.tenure)
+      local_is = ap (λ (k : Node). record { node = k; holder = v.holder; sent = v.sent; entries = v.entries }) u.node
+
+      g : Goes v n b
+      g = record {
+        steps = KeepsBody o t bytes ∷ [];
+        may = (in_are (shown by.by.from by.by.content) v.sent (inv.sent by.by by.sent) (Piece o t bytes) by.brings, tt);
+        leads = ap (λ l. heads.after n l (KeepsBody o t bytes)) local_is;
+        grows = λ k h. h;
+      }
+
+  -- a node begins to take part
+  joins_inv : (w : FileWorld) (inv : Inv w) (n : ℕ) (s : FileState) → runs.MayJoin stripe ops members w n s → Inv (after w (joins n s))
+  joins_inv w inv n s may = record {
+    world = inv.world;
+    reached = inv.reached;
+    holder = inv.holder;
+    sent = inv.sent;
+    told = inv.told;
+    nodes = λ m. by_node (λ b. Shape (if b then x2 else w.nodes m) inv.world m (if b then x2 else w.nodes m).state) m n (λ same. subst (λ k. Up x2 inv.world k s) (sym same) up) (λ _. inv.nodes m);
+  }
+    where
+      x2 : FileNode
+      x2 = record (w.nodes n) { state = Some s }
+
+      down : Down (w.nodes n) inv.world n
+      down = down_at w inv n may.rests
+
+      up : Up x2 inv.world n s
+      up = record { same = may.same; orderly = may.orderly; tenure = None; either = inl refl; node = down.node; fits = down.fits }
+
+  -- what is true of a node, whether it runs or not
+  record Rests (x : FileNode) (v : world.World) (n : ℕ) : Type 0 where
+    tenure : Option Tenure
+    node : v.nodes n ≡ (local_of (seen_at x v tenure)).node
+    names : NamesHeld x.kept.held x.kept.head.versions
+    list : ListFits stripe members x.kept.location
+
+  -- a node takes part no more
+  parts_inv : (w : FileWorld) (inv : Inv w) (n : ℕ) → Inv (after w (parts n))
+  parts_inv w inv n = record {
+    world = v2;
+    reached = goes_reached v n b g inv.reached;
+    holder = ap (without n) inv.holder;
+    sent = inv.sent;
+    told = inv.told;
+    nodes = goes_nodes w.nodes v n b x2 g inv.nodes (record { node = at_own v.nodes n (local_of b).node; fits = record { names = all.names; tenure = not_after_loss n v.holder }; list = all.list });
+  }
+    where
+      v : world.World
+      v = inv.world
+
+      x2 : FileNode
+      x2 = record (w.nodes n) { state = None }
+
+      b : Seen
+      b = record { kept = x2.kept; body = x2.body; tenure = None; holder = without n v.holder; sent = v.sent; entries = v.entries }
+
+      v2 : world.World
+      v2 = behind v n b
+
+      own : (o : Option FileState) → Shape (w.nodes n) v n o → Rests (w.nodes n) v n
+      own None d = record { tenure = None; node = d.node; names = d.fits.names; list = d.list }
+      own (Some s) u = record { tenure = u.tenure; node = u.node; names = u.fits.names; list = subst (λ (k : FileRow). ListFits stripe members k.location) u.same u.orderly.list }
+
+      all : Rests (w.nodes n) v n
+      all = own (w.nodes n).state (inv.nodes n)
+
+      g : Goes v n b
+      g = record {
+        steps = Loses ∷ [];
+        may = (tt, tt);
+        leads = ap (λ (k : Node). heads.after n (record { node = k; holder = v.holder; sent = v.sent; entries = v.entries }) Loses) all.node;
+        grows = λ k h. h;
+      }
+
   pub next_inv : (w : FileWorld) (e : Event) → May stripe ops members w e → Inv w → Inv (after w e)
   next_inv w (acts n s site happens how) may inv = acts_inv w inv n s site happens how may
   next_inv w (starts n awake) may inv = starts_inv w inv n awake may
   next_inv w (forgets n s held body) may inv = forgets_inv w inv n s held body may
   next_inv w (lapses n) may inv = lapses_inv w inv n
+  next_inv w (takes n s o v bytes) may inv = takes_inv w inv n s o v bytes may.0 may.1
+  next_inv w (gets n o v bytes) may inv = gets_inv w inv n o v bytes may.0 may.1
+  next_inv w (drops n held body) may inv = drops_inv w inv n held body may
+  next_inv w (raises n e) may inv = raises_inv w inv n e may.0 may.1
+  next_inv w (stores n row) may inv = stores_inv w inv n row may
+  next_inv w (joins n s) may inv = joins_inv w inv n s may
+  next_inv w (parts n) may inv = parts_inv w inv n
 
   pub all_inv : (w : FileWorld) (es : List Event) → runs.MayAll stripe ops members w es → Inv w → Inv (after_all w es)
   all_inv w [] may inv = inv
@@ -638,13 +850,17 @@ module _ (stripe : ℕ) (some : 0 < stripe) (ops : ℕ × ℕ → Op) (members :
     nodes = inv.nodes;
   }
 
+  -- what messages show
+  abbrev says : Sent → List Message
+  says x = shown x.from x.content
+
   -- the start
   pub begins_inv : (w : FileWorld) → Begins (IsMade stripe ops) members start → BeginsFile stripe members start w → Inv w
   begins_inv w b at = record {
     world = v;
-    reached = begins_there stripe some ops members start v b (record { head = at.head; bodies = at.bodies; idle = λ r. refl; free = refl; silent = refl; untold = refl });
+    reached = begins_there stripe some ops members start v b (record { head = at.head; bodies = at.bodies; idle = λ r. refl; free = refl; silent = λ m h. (let r = flat_has says w.sent m h in at.silent r.0 r.1 m r.2); untold = refl });
     holder = sym at.free;
-    sent = λ x h. absurd (subst (Has x) at.silent h);
+    sent = λ x h. are_in (says x) (flat_map says w.sent) (λ m k. has_flat says w.sent x m h k);
     told = subst (λ ts. Tells stripe ops ts []) (sym at.untold) refl;
     nodes = λ n. subst (Shape (w.nodes n) v n) (sym (at.stopped n)) (record {
       node = refl;
@@ -654,7 +870,7 @@ module _ (stripe : ℕ) (some : 0 < stripe) (ops : ℕ × ℕ → Op) (members :
   }
     where
       v : world.World
-      v = record { nodes = λ r. record { kept = (w.nodes r).kept; body = (w.nodes r).body; primary = Idle }; holder = None; sent = []; entries = [] }
+      v = record { nodes = λ r. record { kept = (w.nodes r).kept; body = (w.nodes r).body; primary = Idle }; holder = None; sent = flat_map says w.sent; entries = [] }
 
   pub on_one_order : (w : FileWorld) (es : List Event) → Begins (IsMade stripe ops) members start → BeginsFile stripe members start w → runs.MayAll stripe ops members w es
       → IsOnOneOrder stripe ops start (after_all w es)

@@ -46,7 +46,7 @@ sample_runs = record {
     names = λ r v h. absurd h;
     list = λ r. tt;
     free = refl;
-    silent = refl;
+    silent = λ x h. absurd h;
     untold = refl;
   };
   runs = (refl, (record { runs = refl; here = refl; bodies = refl; comes = (inr refl, ((refl, refl, refl), write_fits)); own = tt; holds = λ t is. absurd cc; alone = λ held m is. nobody m is; ends = tt }, (record { runs = refl; here = refl; bodies = refl; comes = (inl (inl refl), tt); own = tt; holds = λ t is. absurd cc; alone = λ held m is. nobody m is; ends = tt }, (record { runs = refl; here = refl; bodies = refl; comes = (inl (inl refl), tt); own = tt; holds = λ t is. absurd cc; alone = λ held m is. nobody m is; ends = tt }, (record { runs = refl; here = refl; bodies = refl; comes = (inl (inl refl), tt); own = tt; holds = λ t is. absurd cc; alone = λ held m is. nobody m is; ends = tt }, (record { runs = refl; here = refl; bodies = refl; comes = (inl (inl refl), tt); own = tt; holds = λ t is. absurd cc; alone = λ held m is. nobody m is; ends = tt }, (record { runs = refl; here = refl; bodies = refl; comes = (inl (inl refl), tt); own = tt; holds = λ t is. refl; alone = λ held m is. itself m is; ends = tt }, (record { runs = refl; here = refl; bodies = refl; comes = (inl (inl refl), tt); own = λ is v h. absurd h; holds = λ t is. refl; alone = λ held m is. itself m is; ends = tt }, (record { runs = refl; here = refl; bodies = refl; comes = (inl (inl refl), tt); own = tt; holds = λ t is. refl; alone = λ held m is. itself m is; ends = tt }, (record { runs = refl; here = refl; bodies = refl; comes = (inl (inl refl), tt); own = tt; holds = λ t is. refl; alone = λ held m is. itself m is; ends = tt }, (record { runs = refl; here = refl; bodies = refl; comes = (inl (inl refl), tt); own = tt; holds = λ t is. refl; alone = λ held m is. itself m is; ends = tt }, (record { runs = refl; here = refl; bodies = refl; comes = (inl (inl refl), tt); own = tt; holds = λ t is. refl; alone = λ held m is. itself m is; ends = tt }, (record { runs = refl; here = refl; bodies = refl; comes = (inr refl, ((refl, refl, refl), read_fits)); own = tt; holds = λ t is. refl; alone = λ held m is. itself m is; ends = tt }, tt)))))))))))));

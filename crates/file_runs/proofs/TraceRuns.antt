@@ -35,9 +35,6 @@ module _ (stripe : ℕ) (ops : ℕ × ℕ → Op) (file : ℕ) where
 
   pub marked : (node : NodeId) (ms : List Mark) (before after : List heads.Entry) → AreOf file ms → AreTold stripe ops node.0 ms before after → Tells stripe ops file (map (entry_of node) ms) before after
   marked node [] before after of told = sym told
-  marked node (mark.File f location ∷ ms) before after of told = (before, refl, marked node ms before after of.1 told)
-  marked node (mark.Begin number c ∷ ms) before after of told = (before, refl, marked node ms before after of.1 told)
-  marked node (mark.Held f end ∷ ms) before after of told = (before, refl, marked node ms before after of.1 told)
   marked node (mark.Active f count id ∷ ms) before after of told = (
     TellsActive node.0 count (name_of id) ∷ before,
     ap (λ (b : Bool). if b then TellsActive node.0 count (name_of id) ∷ before else before) (own f file of.0),
@@ -58,7 +55,7 @@ module _ (stripe : ℕ) (ops : ℕ × ℕ → Op) (file : ℕ) where
     subst (AnswerTells stripe ops node.0 id count bytes before (x ∷ before)) (own f file of.0) (x, is, refl),
     marked node ms (x ∷ before) after of.1 told,
   )
-  marked node (mark.Done number outcome ∷ ms) before after of told = (before, refl, marked node ms before after of.1 told)
+  marked node (_ ∷ ms) before after of told = (before, refl, marked node ms before after of.1 told)
 
   traced : (ts : List Tale) (es : List heads.Entry) → TalesAreOf file ts → files.Tells stripe ops ts es → Tells stripe ops file (trace_of ts) [] es
   traced [] es of told = told

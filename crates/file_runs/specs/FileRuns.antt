@@ -1,5 +1,6 @@
 -- Runs of one file among OSDs, who holds it being given.
 use Rattle.std.specs.Prelude.{◌≡◌, ◌⊎◌, true, ℕ, ◌≤◌, List, [], ◌∷◌, ◌++◌, map, Option, Some, None}
+use Rattle.xt_base.specs.declared.ids.Epoch.{Epoch}
 use Rattle.xt_base.specs.declared.ids.NodeId.{NodeId}
 use Rattle.xt_base.specs.declared.ids.FileId.{FileId}
 use Rattle.xt_base.specs.declared.ids.Stamp.{Stamp}
@@ -14,25 +15,25 @@ use Rattle.xt_messages.specs.declared.record.FileRow.{FileRow}
 use Rattle.xt_messages.specs.declared.record.Record.{Record}
 use Rattle.xt_protocol.specs.Folds.{new_row, body_of}
 use Rattle.xt_protocol.specs.Forgetting.{versions_under}
-use Rattle.xt_protocol.specs.Stamps.{has_version}
+use Rattle.xt_protocol.specs.Stamps.{is_earlier, has_version}
 use Rattle.xt_protocol.specs.LeaseRows.{Awake}
 use Rattle.osd_invariants.specs.Sound.{IsHeld}
 use Rattle.xt_protocol.specs.FileStates.{FileState, Site, FileStep, file_from, and_then}
 use Rattle.xt_protocol.specs.FileSteps.{step_of_file, wake_of_file}
 use Rattle.xt_protocol.specs.Overdue.{expired}
 use Rattle.xt_protocol.specs.PrimaryRows.{body_beyond}
-use Rattle.xt_protocol.specs.ReplicaRows.{kept_after}
+use Rattle.xt_protocol.specs.ReplicaRows.{kept_after, stage_record}
 use Rattle.xt_protocol.specs.declared.states.Tenure.{Tenure}
 use Rattle.replica_safety.specs.Epochs.{at_node}
 use Rattle.replica_safety.specs.Lists.{Has, AreDistinct}
 use Rattle.replica_safety.specs.Rules.{Start}
 use Rattle.replica_runs.specs.FileHeads.{bodies_in, head_of}
 use Rattle.replica_runs.specs.HeadOrder.{AreOnOneOrder, AreChanges, IssuesComeFirst, order_of, order_at, known_at}
-use Rattle.replica_runs.specs.HeadWorld.{shown, Entry, BodiesAre, has_at}
+use Rattle.replica_runs.specs.HeadWorld.{shown, Message, Piece, IsOldPiece, Entry, BodiesAre, has_at}
 use Rattle.replica_runs.specs.Made.{IsMade}
 use Rattle.replica_runs.specs.Marks.{Begins}
 use Rattle.replica_runs.specs.Steps.{without}
-use Rattle.replica_runs.specs.FileView.{settled, ListFits, IsFree, AskComes}
+use Rattle.replica_runs.specs.FileView.{settled, ListFits, IsOrderly, IsFree, AskComes}
 use Rattle.replica_runs.specs.HeadSteps.{AreKept}
 use Rattle.replica_runs.specs.Seen.{AreTold, NamesHeld}
 
@@ -84,6 +85,17 @@ pub data Event : Type 0 where
   forgets : (node : ℕ) → (state : FileState) → (held : List ObjectVersion) → (body : ℕ → Stamp → List ℕ) → Event
   -- the node holds no more
   lapses : (node : ℕ) → Event
+  -- a node that runs keeps a body that was sent
+  takes : (node : ℕ) → (state : FileState) → (object : ℕ) → (version : Stamp) → (bytes : List ℕ) → Event
+  -- a node that doesn't run keeps a body that was sent; of its bodies it keeps these; it promises a greater epoch; and what it keeps besides
+  -- the head and the bodies changes
+  gets : (node object : ℕ) → (version : Stamp) → (bytes : List ℕ) → Event
+  drops : (node : ℕ) → (held : List ObjectVersion) → (body : ℕ → Stamp → List ℕ) → Event
+  raises : (node : ℕ) → (epoch : Epoch) → Event
+  stores : (node : ℕ) → (kept : FileRow) → Event
+  -- with what it keeps it begins to take part in this version of the list; or it takes part no more, though it may well run
+  joins : (node : ℕ) → (state : FileState) → Event
+  parts : (node : ℕ) → Event
 
 abbrev pub sent_by : ℕ → List Msg → List Sent
 sent_by n outs = map (λ m. record { from = n; content = m.payload }) outs
@@ -96,6 +108,10 @@ holder_after n (Some t) holder = Some n
 -- a node that keeps this record
 abbrev pub keeping : FileNode → Option FileState → Option Record → FileNode
 keeping x state rec = record { state = state; kept = kept_after x.kept rec; body = body_beyond x.kept.file rec x.body }
+
+-- what is kept, under this promise
+abbrev pub raised : FileRow → Epoch → FileRow
+raised row e = record row { head = record row.head { promised = e } }
 
 abbrev pub acted : FileWorld → ℕ → FileStep → Ending → FileWorld
 acted w n step goes_on = record {
@@ -129,6 +145,17 @@ after w (forgets n s held body) = record w {
   }) w.nodes;
 }
 after w (lapses n) = record w { holder = without n w.holder }
+after w (takes n s o v bytes) =
+    let rec = stage_record (w.nodes n).kept.file (w.nodes n).kept.held o v bytes in
+    record w { nodes = at_node n (keeping (w.nodes n) (Some (record s { kept = kept_after s.kept rec })) rec) w.nodes }
+after w (gets n o v bytes) = record w {
+  nodes = at_node n (keeping (w.nodes n) None (stage_record (w.nodes n).kept.file (w.nodes n).kept.held o v bytes)) w.nodes;
+}
+after w (drops n held body) = record w { nodes = at_node n (record { state = None; kept = record (w.nodes n).kept { held = held }; body = body }) w.nodes }
+after w (raises n e) = record w { nodes = at_node n (record { state = None; kept = raised (w.nodes n).kept e; body = (w.nodes n).body }) w.nodes }
+after w (stores n kept) = record w { nodes = at_node n (record { state = None; kept = kept; body = (w.nodes n).body }) w.nodes }
+after w (joins n s) = record w { nodes = at_node n (record (w.nodes n) { state = Some s }) w.nodes }
+after w (parts n) = record w { nodes = at_node n (record (w.nodes n) { state = None }) w.nodes; holder = without n w.holder }
 
 -- A world of a file in which nothing is kept, sent or marked yet.
 abbrev pub first_world : FileId → FileWorld
@@ -163,6 +190,33 @@ pub record MayForget (w : FileWorld) (n : ℕ) (s : FileState) (held : List Obje
   pub head : AreKept (w.nodes n).kept.held held (w.nodes n).kept.head.versions
   pub led : AreKept (w.nodes n).kept.held held (versions_under (record { 0 = n }) s.primary.tenure)
 
+-- Of the bodies of a node that doesn't run these may be kept.
+pub record MayDrop (w : FileWorld) (n : ℕ) (held : List ObjectVersion) (body : ℕ → Stamp → List ℕ) : Type 0 where
+  pub rests : (w.nodes n).state ≡ None
+  pub less : (v : ObjectVersion) → has_version held v ≡ true → has_version (w.nodes n).kept.held v ≡ true
+  pub same : (o : ℕ) (v : Stamp) → has_version held (body_of o v) ≡ true → body o v ≡ (w.nodes n).body o v
+  pub head : AreKept (w.nodes n).kept.held held (w.nodes n).kept.head.versions
+
+-- a message that was sent brings this body
+pub record IsBrought (w : FileWorld) (o : ℕ) (v : Stamp) (bytes : List ℕ) : Type 0 where
+  pub by : Sent
+  pub sent : Has by w.sent
+  pub brings : Has (Piece o v bytes) (shown by.from by.content)
+
+-- the rest of what a node keeps of the file may become this
+pub record MayStore (stripe : ℕ) (members : List ℕ) (w : FileWorld) (n : ℕ) (kept : FileRow) : Type 0 where
+  pub rests : (w.nodes n).state ≡ None
+  pub head : kept.head ≡ (w.nodes n).kept.head
+  pub held : kept.held ≡ (w.nodes n).kept.held
+  pub file : kept.file ≡ (w.nodes n).kept.file
+  pub list : ListFits stripe members kept.location
+
+-- the state with which a node begins to take part
+pub record MayJoin (stripe : ℕ) (ops : ℕ × ℕ → Op) (members : List ℕ) (w : FileWorld) (n : ℕ) (s : FileState) : Type 0 where
+  pub rests : (w.nodes n).state ≡ None
+  pub same : s.kept ≡ (w.nodes n).kept
+  pub orderly : IsOrderly stripe ops members s
+
 abbrev pub MayEnd : FileStep → Ending → Type 0
 MayEnd step stops_kept = (rec : Record) × (step.turned.rec ≡ Some rec)
 MayEnd step _ = Unit {0}
@@ -183,6 +237,13 @@ May stripe ops members w (acts n s site happens how) = MayAct stripe ops members
 May stripe ops members w (starts n awake) = (w.nodes n).state ≡ None
 May stripe ops members w (forgets n s held body) = MayForget w n s held body
 May stripe ops members w (lapses n) = Unit {0}
+May stripe ops members w (takes n s o v bytes) = ((w.nodes n).state ≡ Some s) × IsBrought w o v bytes
+May stripe ops members w (gets n o v bytes) = ((w.nodes n).state ≡ None) × IsBrought w o v bytes
+May stripe ops members w (drops n held body) = MayDrop w n held body
+May stripe ops members w (raises n e) = ((w.nodes n).state ≡ None) × (is_earlier (w.nodes n).kept.head.promised e ≡ true)
+May stripe ops members w (stores n kept) = MayStore stripe members w n kept
+May stripe ops members w (joins n s) = MayJoin stripe ops members w n s
+May stripe ops members w (parts n) = Unit {0}
 
 abbrev pub after_all : FileWorld → List Event → FileWorld
 after_all w [] = w
@@ -192,7 +253,8 @@ abbrev pub MayAll : ℕ → (ℕ × ℕ → Op) → List ℕ → FileWorld → L
 MayAll stripe ops members w [] = Unit {0}
 MayAll stripe ops members w (e ∷ es) = May stripe ops members w e × MayAll stripe ops members (after w e) es
 
--- A world in which this version of the list begins: no node runs, and each keeps the head and the bodies of its writes.
+-- A world in which this version of the list begins: no node runs, each keeps the head and the bodies of its writes, and what was sent is
+-- bodies of before.
 pub record BeginsFile (stripe : ℕ) (members : List ℕ) (start : Start) (w : FileWorld) : Type 0 where
   pub stopped : (r : ℕ) → (w.nodes r).state ≡ None
   pub head : (r : ℕ) → (w.nodes r).kept.head ≡ head_of (start.promised r) start.epoch (has_at start r)
@@ -200,7 +262,7 @@ pub record BeginsFile (stripe : ℕ) (members : List ℕ) (start : Start) (w : F
   pub names : (r : ℕ) → NamesHeld (w.nodes r).kept.held (w.nodes r).kept.head.versions
   pub list : (r : ℕ) → ListFits stripe members (w.nodes r).kept.location
   pub free : w.holder ≡ None
-  pub silent : w.sent ≡ []
+  pub silent : (x : Sent) → Has x w.sent → (m : Message) → Has m (shown x.from x.content) → IsOldPiece start.old m
   pub untold : w.tales ≡ []
 
 -- these entries are what the tales report, the newest of both first

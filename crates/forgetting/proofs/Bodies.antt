@@ -1,10 +1,10 @@
 -- The rewritten records put the bodies that are kept, and no other one.
 use Rattle.std.proofs.Common.{◌≡◌, ◌==◌, ◌&&◌, ◌||◌, ℕ, Bool, true, false, cond, List, [], ◌∷◌, ◌++◌, Option, Some, None, refl, ap, sym, subst, ◌∙◌, map}
-use Rattle.std.specs.Prelude.{filter, flat_map}
-use Rattle.std.specs.List.{fold, AllByRecursion, list_any}
+use Rattle.std.specs.Prelude.{filter}
+use Rattle.std.specs.List.{fold, AllByRecursion}
 use Rattle.std.specs.Ordering.{is_eq}
 use Rattle.std.proofs.lemmas.List.Sums.{fold-append}
-use Rattle.std.specs.declared.cmp.Ordering.TheVariants.{Less, Equal, Greater}
+use Rattle.std.specs.declared.cmp.Ordering.TheVariants.{Less}
 use Rattle.xt_base.specs.declared.ids.FileId.{FileId}
 use Rattle.xt_base.specs.declared.ids.Stamp.{Stamp}
 use Rattle.xt_messages.specs.declared.file.Location.{Location}
@@ -14,15 +14,16 @@ use Rattle.xt_messages.specs.declared.record.KeepBody.{KeepBody}
 use Rattle.xt_messages.specs.declared.record.Record.{Record}
 use Rattle.xt_messages.specs.declared.record.Record.TheVariants as kept
 use Rattle.xt_protocol.specs.FileIds.{is_file, is_before, file_cmp}
-use Rattle.xt_protocol.specs.Folds.{is_logged, logged_of, fold_of, row_in, body_of, body_put, newer, body_after, body_kept}
-use Rattle.xt_protocol.specs.Forgetting.{view_of, stage_of, records_of_row, records_of_rows, row_without, folded_without, rewritten}
+use Rattle.xt_protocol.specs.Folds.{is_logged, logged_of, widened, fold_of, row_in, body_of, newer, body_after, body_kept}
+use Rattle.xt_protocol.specs.Forgetting.{view_of, close_of, stage_of, records_of_row, records_of_rows, row_without, folded_without, rewritten}
 use Rattle.xt_protocol.specs.SeenBodies.{body_by}
 use Rattle.xt_protocol.specs.Stamps.{is_stamp, is_version, has_version}
-use Rattle.xt_protocol.proofs.Folds.{file-equal, file-itself, is_file-file_cmp}
+use Rattle.xt_protocol.proofs.Folds.{file-equal, file-itself, is_file-file_cmp, logged_widened}
 use Rattle.xt_protocol.proofs.Stamps.{version-equal, version-itself}
 use Rattle.forgetting.specs.Rewritten.{KeepBodies, ForgetOthers}
 use Rattle.xt_protocol.proofs.FileRows.{FilesRise, less, back}
 use Rattle.forgetting.proofs.Folded.{folds_rise, rise_without}
+use Rattle.forgetting.proofs.Rows.{before_head}
 
 false_true : {A : Type 0} → false ≡ true → A
 false_true p = absurd cc
@@ -101,14 +102,16 @@ module _ (body : FileId → ℕ → Stamp → List ℕ) (f : FileId) (o : ℕ) (
 
   -- the list and the head put none
   around : (row : FileRow) (b : Option (List ℕ)) → fold put b (records_of_row body row) ≡ fold put b (map (stage_of body row.file) row.held)
-  around row b = at row.location
+  around row b =
+      fold-append put b (before_head body row) (kept.Head row.file row.head ∷ [])
+      ∙ fold-append put b (view_of row.file row.location ++ close_of row.file row.closed) (map (stage_of body row.file) row.held)
+      ∙ ap (λ (c : Option (List ℕ)). fold put c (map (stage_of body row.file) row.held)) (at row.location row.closed)
     where
-      behind : fold put b (map (stage_of body row.file) row.held ++ kept.Head row.file row.head ∷ []) ≡ fold put b (map (stage_of body row.file) row.held)
-      behind = fold-append put b (map (stage_of body row.file) row.held) (kept.Head row.file row.head ∷ [])
-
-      at : (l : Option Location) → fold put b (view_of row.file l ++ map (stage_of body row.file) row.held ++ kept.Head row.file row.head ∷ []) ≡ fold put b (map (stage_of body row.file) row.held)
-      at None = behind
-      at (Some l) = behind
+      at : (l : Option Location) (closed : Option ℕ) → fold put b (view_of row.file l ++ close_of row.file closed) ≡ b
+      at None None = refl
+      at None (Some version) = refl
+      at (Some l) None = refl
+      at (Some l) (Some version) = refl
 
   -- another file's put none
   others : (file : FileId) (held : List ObjectVersion) (b : Option (List ℕ)) → is_file file f ≡ false → fold put b (map (stage_of body file) held) ≡ b
@@ -168,13 +171,11 @@ module _ (body : FileId → ℕ → Stamp → List ℕ) (f : FileId) (o : ℕ) (
 
   -- requests put none
   one_request : (b : Option (List ℕ)) (rec : Record) → is_logged rec ≡ true → put b rec ≡ b
-  one_request b (kept.Meta from number now nodes request) is = refl
-  one_request b (kept.Boot boot) is = refl
-  one_request b (kept.Promise file epoch) is = refl
   one_request b (kept.Update file update) is = absurd cc
   one_request b (kept.Stage file object version bytes) is = absurd cc
-  one_request b (kept.Head file head) is = refl
-  one_request b (kept.View file location) is = refl
+  one_request b (kept.OldUpdate file update) is = absurd cc
+  one_request b (kept.OldStage file object version bytes) is = absurd cc
+  one_request b _ is = refl
 
   pub requests_put : (records : List Record) (b : Option (List ℕ)) → fold put b (filter is_logged records) ≡ b
   requests_put [] b = refl
@@ -184,17 +185,21 @@ module _ (body : FileId → ℕ → Stamp → List ℕ) (f : FileId) (o : ℕ) (
       at true is rest = ap (λ (c : Option (List ℕ)). fold put c (filter is_logged recs)) (one_request b rec is) ∙ rest
       at false is rest = rest
 
+  pub widened_put : (records : List Record) (b : Option (List ℕ)) → fold put b (map widened (logged_of records)) ≡ b
+  unfolding logged_of
+  widened_put records b = ap (fold put b) (sym (logged_widened records)) ∙ requests_put (map widened records) b
+
 -- ---- the laws
 
 all_put : (keep : List KeepBody) (records : List Record) (file : FileId) (object : ℕ) (version : Stamp) (t : Bool)
     → has_version (row_in (folded_without keep (fold_of records)).files file).held (body_of object version) ≡ t
     → PutBy (body_by records) file object version t None (body_kept (rewritten keep records) file object version)
-unfolding rewritten logged_of body_kept folded_without
+unfolding rewritten body_kept folded_without
 all_put keep records file object version t has =
     let rows = map (row_without keep) (fold_of records).files in
     subst (PutBy (body_by records) file object version t None)
-    (sym (fold-append (body_after file object version) None (filter is_logged records) (records_of_rows (body_by records) rows)
-    ∙ ap (λ (b : Option (List ℕ)). fold (body_after file object version) b (records_of_rows (body_by records) rows)) (requests_put (body_by records) file object version records None)))
+    (sym (fold-append (body_after file object version) None (map widened (logged_of records)) (records_of_rows (body_by records) rows)
+    ∙ ap (λ (b : Option (List ℕ)). fold (body_after file object version) b (records_of_rows (body_by records) rows)) (widened_put (body_by records) file object version records None)))
     (rows_put (body_by records) file object version rows None t (rise_without keep (fold_of records).files (folds_rise records).files) has)
 
 pub keeps : KeepBodies

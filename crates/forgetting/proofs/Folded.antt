@@ -1,5 +1,5 @@
 -- What records fold to rises, file by file and version by version, and goes on to where some are forgotten.
-use Rattle.std.proofs.Common.{◌≡◌, ◌==◌, ℕ, Bool, true, false, cond, List, [], ◌∷◌, ◌++◌, Option, Some, None, refl, ap, sym, subst, ◌∙◌, map}
+use Rattle.std.proofs.Common.{◌≡◌, ◌==◌, ◌⊎◌, inl, inr, Bool, true, false, cond, List, [], ◌∷◌, Option, Some, None, refl, sym, subst, map}
 use Rattle.std.specs.Prelude.{filter}
 use Rattle.std.specs.List.{fold, AllByRecursion}
 use Rattle.std.specs.declared.cmp.Ordering.{Ordering}
@@ -7,19 +7,18 @@ use Rattle.std.specs.declared.cmp.Ordering.TheVariants.{Less, Equal, Greater}
 use Rattle.xt_base.specs.declared.TheConstants.{NO_OBJECT}
 use Rattle.xt_base.specs.declared.ids.FileId.{FileId}
 use Rattle.xt_messages.specs.declared.file.ObjectVersion.{ObjectVersion}
-use Rattle.xt_messages.specs.declared.file.Update.{Update}
 use Rattle.xt_messages.specs.declared.record.FileRow.{FileRow}
 use Rattle.xt_messages.specs.declared.record.Folded.{Folded}
 use Rattle.xt_messages.specs.declared.record.KeepBody.{KeepBody}
 use Rattle.xt_messages.specs.declared.record.Record.{Record}
-use Rattle.xt_messages.specs.declared.record.Record.TheVariants as kept
-use Rattle.xt_protocol.specs.FileIds.{is_file, is_before, file_cmp}
-use Rattle.xt_protocol.specs.Folds.{new_row, row_in, with_row, row_after, rows_after, file_of, folded_after, nothing_kept, body_of, held_after, fold_of}
+use Rattle.xt_protocol.specs.FileIds.{is_file, is_before}
+use Rattle.xt_protocol.specs.Folds.{row_in, with_row, without_row, row_after, rows_after, file_of, forgets, folded_after, nothing_kept, body_of, fold_of}
 use Rattle.xt_protocol.specs.Forgetting.{is_kept, row_without}
 use Rattle.xt_protocol.specs.Stamps.{with_held}
 use Rattle.xt_protocol.specs.VersionOrder.{version_cmp}
-use Rattle.xt_protocol.proofs.Stamps.{version_cmp_total, version-back, equal-versions, held-behind, held-here, held-before, held-alone}
-use Rattle.xt_protocol.proofs.FileRows.{FilesRise, rise-with_row}
+use Rattle.xt_protocol.proofs.Stamps.{version_cmp_total, version-back, held-behind, held-here, held-before, held-alone}
+use Rattle.xt_protocol.proofs.FileRows.{FilesRise, rise-with_row, rise-without_row, each-without_row}
+use Rattle.xt_protocol.proofs.Sorts.{Change, Updated, Staged, Removed, row_by, Rests, Changes, sort_of}
 use Rattle.forgetting.proofs.Rows.{Ascend}
 
 -- ---- held versions
@@ -95,25 +94,35 @@ put_up (r ∷ rs) row all is = at (is_file r.file row.file) (is_before row.file 
     at false true rest = (is, all)
     at false false rest = (all.0, rest)
 
-after_up : (row : FileRow) (rec : Record) → RowUp row → RowUp (row_after row rec)
-after_up row (kept.Promise file epoch) up = up
-after_up row (kept.Update file u) up = at (u.object == NO_OBJECT)
+-- whatever a record changes in a row
+changed_up : (row : FileRow) (change : Change) → RowUp row → RowUp (row_by row change)
+changed_up row (Updated u) up = at (u.object == NO_OBJECT)
   where
     at : (b : Bool) → Ascend (cond b row.held (with_held row.held (body_of u.object u.stamp)))
     at true = up
     at false = ascend_put row.held (body_of u.object u.stamp) up
-after_up row (kept.Stage file object version bytes) up = ascend_put row.held (body_of object version) up
-after_up row (kept.Head file head) up = up
-after_up row (kept.View file location) up = up
-after_up row (kept.Boot boot) up = up
-after_up row (kept.Meta from number now nodes request) up = up
+changed_up row (Staged object version) up = ascend_put row.held (body_of object version) up
+changed_up row Removed up = tt
+changed_up row _ up = up
+
+after_up : (row : FileRow) (rec : Record) → RowUp row → RowUp (row_after row rec)
+after_up row rec up = at (sort_of rec)
+  where
+    at : Rests false rec ⊎ (Rests true rec ⊎ Changes rec) → RowUp (row_after row rec)
+    at (inl rests) = subst RowUp (sym (rests.row row)) up
+    at (inr (inl rests)) = subst RowUp (sym (rests.row row)) up
+    at (inr (inr of)) = subst RowUp (sym (of.row row)) (changed_up row of.change up)
 
 rise_next : (rows : List FileRow) (rec : Record) (o : Option FileId) → RowsRise rows → RowsRise (rows_after rows rec o)
 rise_next rows rec None rise = rise
-rise_next rows rec (Some file) rise = record {
-  files = rise-with_row rows (row_after (row_in rows file) rec) rise.files;
-  each = put_up rows (row_after (row_in rows file) rec) rise.each (after_up (row_in rows file) rec (row_up rows file rise.each));
-}
+rise_next rows rec (Some file) rise = at (forgets rec)
+  where
+    at : (gone : Bool) → RowsRise (cond gone (without_row rows file) (with_row rows (row_after (row_in rows file) rec)))
+    at true = record { files = rise-without_row rows file rise.files; each = each-without_row RowUp rows file rise.each }
+    at false = record {
+      files = rise-with_row rows (row_after (row_in rows file) rec) rise.files;
+      each = put_up rows (row_after (row_in rows file) rec) rise.each (after_up (row_in rows file) rec (row_up rows file rise.each));
+    }
 
 rise_all : (records : List Record) (f : Folded) → RowsRise f.files → RowsRise (fold folded_after f records).files
 rise_all [] f rise = rise

@@ -1,5 +1,5 @@
 -- Heads name bodies that are held, and an OSD that forgets keeps those that it needs.
-use Rattle.std.proofs.Common.{◌≡◌, ◌==◌, ◌&&◌, ◌||◌, ◌⊎◌, inl, inr, ℕ, zero, suc, ◌<◌, Bool, true, false, cond, List, [], ◌∷◌, ◌++◌, Option, Some, None, refl, ap, sym, subst, ◌∙◌, map, arith}
+use Rattle.std.proofs.Common.{◌≡◌, ◌==◌, ◌&&◌, ◌||◌, ℕ, zero, suc, Bool, true, false, cond, List, [], ◌∷◌, ◌++◌, Option, Some, None, refl, ap, sym, subst, ◌∙◌, map, arith}
 use Rattle.std.specs.Prelude.{filter, flat_map, Contains, nat_lt}
 use Rattle.std.specs.List.{fold, All, AllByRecursion, list_any}
 use Rattle.xt_base.specs.declared.TheConstants.{NO_OBJECT}
@@ -15,12 +15,12 @@ use Rattle.xt_messages.specs.declared.record.Record.{Record}
 use Rattle.xt_messages.specs.declared.record.Record.TheVariants as kept
 use Rattle.xt_protocol.specs.FileIds.{is_file, is_before}
 use Rattle.xt_protocol.specs.FileStates.{FileState}
-use Rattle.xt_protocol.specs.Folds.{new_row, row_in, with_row, row_after, rows_after, file_of, folded_after, nothing_kept, body_of, held_after, fold_of, IsInPlace, AreInPlace}
-use Rattle.xt_protocol.specs.Forgetting.{is_needed, needed_of, keep_of, is_kept, row_without}
+use Rattle.xt_protocol.specs.Folds.{row_in, with_row, without_row, row_after, rows_after, file_of, forgets, folded_after, nothing_kept, body_of, held_after, fold_of, IsInPlace, AreInPlace}
+use Rattle.xt_protocol.specs.Forgetting.{is_needed, needed_of, keep_of, is_kept}
 use Rattle.xt_protocol.specs.Heads.{head_after, versions_below, with_version}
-use Rattle.xt_protocol.specs.OsdSteps.{OsdState}
 use Rattle.xt_protocol.specs.Stamps.{is_version, has_version, with_held}
-use Rattle.xt_protocol.proofs.Folds.{file-itself, row_in-file}
+use Rattle.xt_protocol.proofs.FileRows.{each-without_row}
+use Rattle.xt_protocol.proofs.Folds.{file-itself}
 use Rattle.xt_protocol.proofs.Stamps.{version-equal, version-itself, has_version-with_held}
 use Rattle.forgetting.specs.Rewritten.{NamesAreHeld, NeededAreKept}
 
@@ -76,11 +76,13 @@ NamesRow row = Names row.held row.head.versions
 -- a record that is in its place on a row
 abbrev IsOn : FileRow → Record → Type 0
 IsOn row (kept.Head file head) = All (Contains row.held) head.versions
+IsOn row (kept.Install file location head) = All (Contains row.held) head.versions
+IsOn row (kept.OldHead file head) = All (Contains row.held) head.versions
+IsOn row (kept.OldInstall file location head) = All (Contains row.held) head.versions
 IsOn row _ = Unit {0}
 
-row_names : (row : FileRow) (rec : Record) → NamesRow row → IsOn row rec → NamesRow (row_after row rec)
-row_names row (kept.Promise file epoch) names on = names
-row_names row (kept.Update file u) names on = at (u.object == NO_OBJECT)
+update_names : (row : FileRow) (u : Update) → NamesRow row → Names (held_after row.held u) (head_after row.head u).versions
+update_names row u names = at (u.object == NO_OBJECT)
   where
     at : (b : Bool) → Names (cond b row.held (with_held row.held (body_of u.object u.stamp)))
         (cond b (versions_below row.head.versions u.drop_from) (with_version (versions_below row.head.versions u.drop_from) u.object u.stamp))
@@ -89,11 +91,18 @@ row_names row (kept.Update file u) names on = at (u.object == NO_OBJECT)
         one_more (with_held row.held (body_of u.object u.stamp)) (versions_below row.head.versions u.drop_from) u.object u.stamp
         (has_version-with_held row.held (body_of u.object u.stamp) (body_of u.object u.stamp) ∙ or_left (is_version (body_of u.object u.stamp) (body_of u.object u.stamp)) _ (version-itself (body_of u.object u.stamp)))
         (grows row.held (body_of u.object u.stamp) (versions_below row.head.versions u.drop_from) (fewer (λ (v : ObjectVersion). nat_lt v.object u.drop_from) row.held row.head.versions names))
+
+row_names : (row : FileRow) (rec : Record) → NamesRow row → IsOn row rec → NamesRow (row_after row rec)
+row_names row (kept.Update file u) names on = update_names row u names
+row_names row (kept.OldUpdate file u) names on = update_names row u names
 row_names row (kept.Stage file object version bytes) names on = grows row.held (body_of object version) row.head.versions names
+row_names row (kept.OldStage file object version bytes) names on = grows row.held (body_of object version) row.head.versions names
 row_names row (kept.Head file head) names on = all_contained row.held head.versions on
-row_names row (kept.View file location) names on = names
-row_names row (kept.Boot boot) names on = names
-row_names row (kept.Meta from number now nodes request) names on = names
+row_names row (kept.OldHead file head) names on = all_contained row.held head.versions on
+row_names row (kept.Install file location head) names on = all_contained row.held head.versions on
+row_names row (kept.OldInstall file location head) names on = all_contained row.held head.versions on
+row_names row (kept.Forget file) names on = tt
+row_names row _ names on = names
 
 read_names : (rows : List FileRow) (file : FileId) → AllByRecursion NamesRow rows → NamesRow (row_in rows file)
 unfolding row_in
@@ -119,17 +128,18 @@ some_file p = cc
 
 on_row : (f : Folded) (rec : Record) (file : FileId) → file_of rec ≡ Some file → IsInPlace f rec → IsOn (row_in f.files file) rec
 on_row f (kept.Head k head) file of placed = subst (λ (x : FileId). All (Contains (row_in f.files x).held) head.versions) (some_file of) placed
-on_row f (kept.Promise k epoch) file of placed = tt
-on_row f (kept.Update k update) file of placed = tt
-on_row f (kept.Stage k object version bytes) file of placed = tt
-on_row f (kept.View k location) file of placed = tt
-on_row f (kept.Boot boot) file of placed = tt
-on_row f (kept.Meta from number now nodes request) file of placed = tt
+on_row f (kept.Install k location head) file of placed = subst (λ (x : FileId). All (Contains (row_in f.files x).held) head.versions) (some_file of) placed
+on_row f (kept.OldHead k head) file of placed = subst (λ (x : FileId). All (Contains (row_in f.files x).held) head.versions) (some_file of) placed
+on_row f (kept.OldInstall k location head) file of placed = subst (λ (x : FileId). All (Contains (row_in f.files x).held) head.versions) (some_file of) placed
+on_row f _ file of placed = tt
 
 next_names : (f : Folded) (rec : Record) (o : Option FileId) → file_of rec ≡ o → IsInPlace f rec → AllByRecursion NamesRow f.files → AllByRecursion NamesRow (rows_after f.files rec o)
 next_names f rec None of placed all = all
-next_names f rec (Some file) of placed all =
-    put_names f.files (row_after (row_in f.files file) rec) all (row_names (row_in f.files file) rec (read_names f.files file all) (on_row f rec file of placed))
+next_names f rec (Some file) of placed all = at (forgets rec)
+  where
+    at : (gone : Bool) → AllByRecursion NamesRow (cond gone (without_row f.files file) (with_row f.files (row_after (row_in f.files file) rec)))
+    at true = each-without_row NamesRow f.files file all
+    at false = put_names f.files (row_after (row_in f.files file) rec) all (row_names (row_in f.files file) rec (read_names f.files file all) (on_row f rec file of placed))
 
 all_names : (records : List Record) (f : Folded) → AreInPlace f records → AllByRecursion NamesRow f.files → AllByRecursion NamesRow (fold folded_after f records).files
 all_names [] f placed all = all

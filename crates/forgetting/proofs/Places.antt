@@ -1,46 +1,29 @@
 -- Each of the rewritten records is in its place.
-use Rattle.std.proofs.Common.{◌≡◌, ℕ, zero, suc, ◌<◌, Bool, true, false, cond, List, [], ◌∷◌, ◌++◌, Option, Some, None, refl, ap, sym, subst, ◌∙◌, map, arith, append_assoc}
-use Rattle.std.specs.Prelude.{filter, flat_map, Contains}
+use Rattle.std.proofs.Common.{◌≡◌, ℕ, suc, Bool, true, false, cond, List, [], ◌∷◌, ◌++◌, refl, ap, sym, subst, ◌∙◌, map, arith}
+use Rattle.std.specs.Prelude.{filter, Contains}
 use Rattle.std.specs.List.{fold, All, AllByRecursion}
-use Rattle.std.proofs.lemmas.List.Sums.{fold-append}
 use Rattle.xt_base.specs.declared.ids.Boot.{Boot}
 use Rattle.xt_base.specs.declared.ids.FileId.{FileId}
 use Rattle.xt_base.specs.declared.ids.Stamp.{Stamp}
-use Rattle.xt_messages.specs.declared.file.Location.{Location}
 use Rattle.xt_messages.specs.declared.file.ObjectVersion.{ObjectVersion}
 use Rattle.xt_messages.specs.declared.record.FileRow.{FileRow}
 use Rattle.xt_messages.specs.declared.record.Folded.{Folded}
 use Rattle.xt_messages.specs.declared.record.KeepBody.{KeepBody}
 use Rattle.xt_messages.specs.declared.record.Record.{Record}
 use Rattle.xt_messages.specs.declared.record.Record.TheVariants as kept
-use Rattle.xt_protocol.specs.FileIds.{is_before}
-use Rattle.xt_protocol.specs.Folds.{new_row, row_in, row_after, folded_after, nothing_kept, is_logged, logged_of, fold_of, IsInPlace, AreInPlace}
-use Rattle.xt_protocol.specs.Forgetting.{view_of, stage_of, records_of_row, records_of_rows, row_without, rewritten}
+use Rattle.xt_protocol.specs.Folds.{new_row, row_in, row_after, folded_after, is_logged, logged_of, widened, fold_of, IsInPlace, AreInPlace}
+use Rattle.xt_protocol.specs.Forgetting.{records_of_row, records_of_rows, row_without, rewritten}
 use Rattle.xt_protocol.specs.SeenBodies.{body_by}
 use Rattle.forgetting.specs.Rewritten.{NamedAreKept, AreInPlaceAgain}
 use Rattle.xt_protocol.proofs.FileRows.{FilesRise}
-use Rattle.forgetting.proofs.Rows.{Ascend, AreBefore, AreOf, some_records, last_new, read_new, read_last, staged_all, all_below_none, listed, Follow, follow_next, follow_none, row_says}
+use Rattle.forgetting.proofs.Rows.{Ascend, AreBefore, AreOf, some_records, last_new, read_new, read_last, before_head, each_before, before_are, before_says, Follow, follow_next, follow_none, row_says}
 use Rattle.forgetting.proofs.Folded.{folds_rise, rise_without, up_without}
-use Rattle.forgetting.proofs.Said.{logged_fold}
+use Rattle.forgetting.proofs.Said.{widened_fold}
+use Rattle.xt_protocol.proofs.Folds.{logged_widened, row_after-file}
 
 -- a record that can come at any time
 abbrev pub IsEasy : Record → Type 0
-IsEasy (kept.Stage file object version bytes) = Unit {0}
-IsEasy (kept.View file location) = Unit {0}
-IsEasy (kept.Boot boot) = Unit {0}
-IsEasy (kept.Meta from number now nodes request) = Unit {0}
-IsEasy (kept.Promise file epoch) = ⊥
-IsEasy (kept.Update file update) = ⊥
-IsEasy (kept.Head file head) = ⊥
-
-easy_there : (f : Folded) (rec : Record) → IsEasy rec → IsInPlace f rec
-easy_there f (kept.Stage file object version bytes) easy = tt
-easy_there f (kept.View file location) easy = tt
-easy_there f (kept.Boot boot) easy = tt
-easy_there f (kept.Meta from number now nodes request) easy = tt
-easy_there f (kept.Promise file epoch) easy = absurd easy
-easy_there f (kept.Update file update) easy = absurd easy
-easy_there f (kept.Head file head) easy = absurd easy
+IsEasy rec = (f : Folded) → IsInPlace f rec
 
 -- records in their places, and then others
 join : (f : Folded) (xs ys : List Record) → AreInPlace f xs → AreInPlace (fold folded_after f xs) ys → AreInPlace f (xs ++ ys)
@@ -49,51 +32,30 @@ join f (x ∷ xs) ys here there = (here.0, join (folded_after f x) xs ys here.1 
 
 easy_all : (f : Folded) (xs : List Record) → AllByRecursion IsEasy xs → AreInPlace f xs
 easy_all f [] all = tt
-easy_all f (x ∷ xs) all = (easy_there f x all.0, easy_all (folded_after f x) xs all.1)
+easy_all f (x ∷ xs) all = (all.0 f, easy_all (folded_after f x) xs all.1)
 
 easy_logged : (records : List Record) → AllByRecursion IsEasy (filter is_logged records)
 easy_logged [] = tt
 easy_logged (rec ∷ recs) = at (is_logged rec) refl (easy_logged recs)
   where
     one : (r : Record) → is_logged r ≡ true → IsEasy r
-    one (kept.Meta from number now nodes request) is = tt
-    one (kept.Boot boot) is = tt
-    one (kept.Promise file epoch) is = absurd cc
-    one (kept.Update file update) is = absurd cc
-    one (kept.Stage file object version bytes) is = tt
-    one (kept.Head file head) is = absurd cc
-    one (kept.View file location) is = tt
+    one (kept.Meta from number now nodes request) is f = tt
+    one (kept.Choice file location head source) is f = tt
+    one (kept.OldChoice file location head source) is f = tt
+    one (kept.Listed file version) is f = tt
+    one _ is f = absurd cc
 
     at : (b : Bool) → is_logged rec ≡ b → AllByRecursion IsEasy (filter is_logged recs) → AllByRecursion IsEasy (cond b (rec ∷ filter is_logged recs) (filter is_logged recs))
     at true is rest = (one rec is, rest)
     at false is rest = rest
 
+easy_widened : (records : List Record) → AllByRecursion IsEasy (map widened (logged_of records))
+unfolding logged_of
+easy_widened records = subst (AllByRecursion IsEasy) (logged_widened records) (easy_logged (map widened records))
+
 module _ (body : FileId → ℕ → Stamp → List ℕ) where
-  -- the list and the bodies of a row
-  abbrev before_head : FileRow → List Record
-  before_head row = view_of row.file row.location ++ map (stage_of body row.file) row.held
-
-  easy_stages : (file : FileId) (held : List ObjectVersion) → AllByRecursion IsEasy (map (stage_of body file) held)
-  easy_stages file [] = tt
-  easy_stages file (v ∷ vs) = (tt, easy_stages file vs)
-
-  easy_before : (row : FileRow) → AllByRecursion IsEasy (before_head row)
-  easy_before row = at row.location
-    where
-      at : (o : Option Location) → AllByRecursion IsEasy (view_of row.file o ++ map (stage_of body row.file) row.held)
-      at None = easy_stages row.file row.held
-      at (Some l) = (tt, easy_stages row.file row.held)
-
-  stages_are : (file : FileId) (held : List ObjectVersion) → AreOf file (map (stage_of body file) held)
-  stages_are file [] = tt
-  stages_are file (v ∷ vs) = (refl, stages_are file vs)
-
-  before_are : (row : FileRow) → AreOf row.file (before_head row)
-  before_are row = at row.location
-    where
-      at : (o : Option Location) → AreOf row.file (view_of row.file o ++ map (stage_of body row.file) row.held)
-      at None = stages_are row.file row.held
-      at (Some l) = (refl, stages_are row.file row.held)
+  easy_before : (row : FileRow) → AllByRecursion IsEasy (before_head body row)
+  easy_before row = each_before body IsEasy row (λ location f. tt) (λ version f. tt) (λ v f. tt)
 
   -- what some records of a file make of its row, after rows that come before it
   row_behind : (boot : Boot) (pre : List FileRow) (file : FileId) (xs : List Record) → AreBefore file pre → AreOf file xs
@@ -104,37 +66,17 @@ module _ (body : FileId → ℕ → Stamp → List ℕ) where
     where
       same : (ys : List Record) (a : FileRow) → (fold row_after a ys).file ≡ a.file
       same [] a = refl
-      same (y ∷ ys) a = same ys (row_after a y) ∙ file_kept a y
-        where
-          file_kept : (b : FileRow) (r : Record) → (row_after b r).file ≡ b.file
-          file_kept b (kept.Promise k epoch) = refl
-          file_kept b (kept.Update k update) = refl
-          file_kept b (kept.Stage k object version bytes) = refl
-          file_kept b (kept.Head k head) = refl
-          file_kept b (kept.View k location) = refl
-          file_kept b (kept.Boot boot) = refl
-          file_kept b (kept.Meta from number now nodes request) = refl
+      same (y ∷ ys) a = same ys (row_after a y) ∙ row_after-file a y
 
       last : (a : FileRow) → a.file ≡ file → row_in (pre ++ a ∷ []) file ≡ a
       last a is = ap (λ (k : FileId). row_in (pre ++ a ∷ []) k) (sym is) ∙ read_last pre a (subst (λ (k : FileId). AreBefore k pre) (sym is) before)
 
-  -- where the head comes, the bodies are held
-  held_before : (row : FileRow) → Ascend row.held → (fold row_after (new_row row.file) (before_head row)).held ≡ row.held
-  held_before row up = at row.location
-    where
-      staged : (o : Option Location) → (fold row_after (listed body row.file o) (map (stage_of body row.file) row.held)).held ≡ row.held
-      staged o = ap (λ (r : FileRow). r.held) (staged_all body (listed body row.file o) [] row.held (all_below_none body row.held) up)
-
-      at : (o : Option Location) → (fold row_after (new_row row.file) (view_of row.file o ++ map (stage_of body row.file) row.held)).held ≡ row.held
-      at None = staged None
-      at (Some l) = staged (Some l)
-
   row_there : (boot : Boot) (pre : List FileRow) (row : FileRow) → Ascend row.held → AreBefore row.file pre → All (Contains row.held) row.head.versions
       → AreInPlace (record { boot = boot; files = pre }) (records_of_row body row)
   row_there boot pre row up before named =
-      join (record { boot = boot; files = pre }) (before_head row) (kept.Head row.file row.head ∷ []) (easy_all (record { boot = boot; files = pre }) (before_head row) (easy_before row)) (
+      join (record { boot = boot; files = pre }) (before_head body row) (kept.Head row.file row.head ∷ []) (easy_all (record { boot = boot; files = pre }) (before_head body row) (easy_before row)) (
         subst (λ (held : List ObjectVersion). All (Contains held) row.head.versions)
-            (sym (ap (λ (r : FileRow). r.held) (row_behind boot pre row.file (before_head row) before (before_are row)) ∙ held_before row up)) named,
+            (sym (ap (λ (r : FileRow). r.held) (row_behind boot pre row.file (before_head body row) before (before_are body row) ∙ before_says body row up))) named,
         tt,
       )
 
@@ -158,14 +100,14 @@ named_without keep [] named = tt
 named_without keep (r ∷ rs) named = (named r (0, omega arith, refl), named_without keep rs (λ row has. named row (suc has.0, omega (arith, has.1), has.2)))
 
 pub there : AreInPlaceAgain
-unfolding rewritten logged_of
+unfolding rewritten
 there keep records named =
     let f = fold_of records in
     let start : Folded = record { boot = f.boot; files = [] } in
     let rows = map (row_without keep) f.files in
     let rise = folds_rise records in (
       tt,
-      join start (filter is_logged records) (records_of_rows (body_by records) rows) (easy_all start (filter is_logged records) (easy_logged records))
-          (subst (λ (g : Folded). AreInPlace g (records_of_rows (body_by records) rows)) (sym (logged_fold records start))
+      join start (map widened (logged_of records)) (records_of_rows (body_by records) rows) (easy_all start (map widened (logged_of records)) (easy_widened records))
+          (subst (λ (g : Folded). AreInPlace g (records_of_rows (body_by records) rows)) (sym (widened_fold records start))
           (all_there (body_by records) f.boot rows (rise_without keep f.files rise.files) (up_without keep f.files rise.each) (named_without keep f.files named))),
     )

@@ -1,6 +1,5 @@
 -- The records of some rows fold to these rows.
-use Rattle.std.proofs.Common.{◌≡◌, ◌==◌, ℕ, zero, suc, ◌<◌, Bool, true, false, cond, List, [], ◌∷◌, ◌++◌, Option, Some, None, refl, ap, sym, subst, ◌∙◌, arith, map, append_assoc, append-nil}
-use Rattle.std.specs.Prelude.{filter, flat_map}
+use Rattle.std.proofs.Common.{◌≡◌, ℕ, Bool, true, false, cond, List, [], ◌∷◌, ◌++◌, Option, Some, None, refl, ap, sym, subst, ◌∙◌, map, append_assoc, append-nil}
 use Rattle.std.proofs.lemmas.List.Sums.{fold-append}
 use Rattle.std.specs.List.{fold, AllByRecursion}
 use Rattle.std.specs.Ordering.{is_eq, is_lt}
@@ -9,19 +8,21 @@ use Rattle.std.specs.declared.cmp.Ordering.TheVariants.{Less, Equal, Greater}
 use Rattle.xt_base.specs.declared.ids.Boot.{Boot}
 use Rattle.xt_base.specs.declared.ids.FileId.{FileId}
 use Rattle.xt_base.specs.declared.ids.Stamp.{Stamp}
+use Rattle.xt_messages.specs.declared.file.FileHead.{FileHead}
 use Rattle.xt_messages.specs.declared.file.Location.{Location}
 use Rattle.xt_messages.specs.declared.file.ObjectVersion.{ObjectVersion}
 use Rattle.xt_messages.specs.declared.record.FileRow.{FileRow}
 use Rattle.xt_messages.specs.declared.record.Folded.{Folded}
 use Rattle.xt_messages.specs.declared.record.Record.{Record}
 use Rattle.xt_messages.specs.declared.record.Record.TheVariants as kept
-use Rattle.xt_protocol.specs.FileIds.{is_file, is_before, file_cmp}
-use Rattle.xt_protocol.specs.Folds.{new_row, row_in, with_row, row_after, rows_after, file_of, boot_after, folded_after, body_of, fold_of}
+use Rattle.xt_protocol.specs.FileIds.{is_before, file_cmp}
+use Rattle.xt_protocol.specs.Folds.{new_row, row_in, with_row, without_row, row_after, rows_after, file_of, forgets, folded_after}
 use Rattle.xt_protocol.specs.Heads.{new_head}
-use Rattle.xt_protocol.specs.Forgetting.{view_of, stage_of, records_of_row, records_of_rows}
+use Rattle.xt_protocol.specs.Forgetting.{view_of, close_of, stage_of, records_of_row, records_of_rows}
 use Rattle.xt_protocol.specs.Stamps.{with_held}
 use Rattle.xt_protocol.specs.VersionOrder.{version_cmp}
 use Rattle.xt_protocol.proofs.Folds.{file-itself, is_file-file_cmp, row_after-file}
+use Rattle.xt_protocol.proofs.Sorts.{no_boot}
 use Rattle.xt_protocol.proofs.Stamps.{held-alone, held-behind}
 use Rattle.xt_protocol.proofs.FileRows.{FilesRise, put_behind, put_over, read_behind, read_here}
 
@@ -76,40 +77,48 @@ last_new pre file all = record {
 last_there : (pre : List FileRow) (a : FileRow) → AreBefore a.file pre → ComesLast (pre ++ a ∷ []) pre a
 last_there pre a all = record { reads = read_last pre a all; puts = λ b same. put_last pre a b same all }
 
+-- ---- lists
+
+pub all_append : (P : Record → Type 0) (xs ys : List Record) → AllByRecursion P xs → AllByRecursion P ys → AllByRecursion P (xs ++ ys)
+all_append P [] ys here there = there
+all_append P (x ∷ xs) ys here there = (here.0, all_append P xs ys here.1 there)
+
 -- ---- records of one file
 
+-- it is of this file, and leaves it a row
+abbrev pub IsOf : FileId → Record → Type 0
+IsOf file rec = (file_of rec ≡ Some file) × (forgets rec ≡ false)
+
 abbrev pub AreOf : FileId → List Record → Type 0
-AreOf file recs = AllByRecursion (λ (rec : Record). file_of rec ≡ Some file) recs
+AreOf file recs = AllByRecursion (IsOf file) recs
 
--- a record of a file is of no start
-no_boot : (boot : ℕ) (rec : Record) (file : FileId) → file_of rec ≡ Some file → boot_after boot rec ≡ boot
-no_boot boot (kept.Boot b) file is = absurd cc
-no_boot boot (kept.Promise f epoch) file is = refl
-no_boot boot (kept.Update f update) file is = refl
-no_boot boot (kept.Stage f object version bytes) file is = refl
-no_boot boot (kept.Head f head) file is = refl
-no_boot boot (kept.View f location) file is = refl
-no_boot boot (kept.Meta from number now nodes request) file is = refl
-
-one_record : (boot : Boot) (files pre : List FileRow) (a : FileRow) (rec : Record) → file_of rec ≡ Some a.file → ComesLast files pre a
+one_record : (boot : Boot) (files pre : List FileRow) (a : FileRow) (rec : Record) → IsOf a.file rec → ComesLast files pre a
     → folded_after (record { boot = boot; files = files }) rec ≡ record { boot = boot; files = pre ++ row_after a rec ∷ [] }
 one_record boot files pre a rec of last =
-    ap (λ (n : ℕ). record { boot = record { 0 = n }; files = rows_after files rec (file_of rec) }) (no_boot boot.0 rec a.file of)
-    ∙ ap (λ (o : Option FileId). record { boot = boot; files = rows_after files rec o }) of
+    ap (λ (n : ℕ). record { boot = record { 0 = n }; files = rows_after files rec (file_of rec) }) (no_boot boot.0 rec a.file of.0)
+    ∙ ap (λ (o : Option FileId). record { boot = boot; files = rows_after files rec o }) of.0
+    ∙ ap (λ (gone : Bool). record { boot = boot; files = cond gone (without_row files a.file) (with_row files (row_after (row_in files a.file) rec)) }) of.1
     ∙ ap (λ (r : FileRow). record { boot = boot; files = with_row files (row_after r rec) }) last.reads
     ∙ ap (λ (fs : List FileRow). record { boot = boot; files = fs }) (last.puts (row_after a rec) (row_after-file a rec))
 
-pub some_records : (recs : List Record) (boot : Boot) (files pre : List FileRow) (a : FileRow) (rec : Record) → file_of rec ≡ Some a.file → AreOf a.file recs
+pub some_records : (recs : List Record) (boot : Boot) (files pre : List FileRow) (a : FileRow) (rec : Record) → IsOf a.file rec → AreOf a.file recs
     → AreBefore a.file pre → ComesLast files pre a
     → fold folded_after (record { boot = boot; files = files }) (rec ∷ recs) ≡ record { boot = boot; files = pre ++ fold row_after a (rec ∷ recs) ∷ [] }
 some_records [] boot files pre a rec of all before last = one_record boot files pre a rec of last
 some_records (x ∷ xs) boot files pre a rec of all before last =
     ap (λ (f : Folded). fold folded_after f (x ∷ xs)) (one_record boot files pre a rec of last)
-    ∙ some_records xs boot (pre ++ row_after a rec ∷ []) pre (row_after a rec) x (all.0 ∙ ap (λ (f : FileId). Some f) (sym same)) (subst (λ (f : FileId). AreOf f xs) (sym same) all.1)
+    ∙ some_records xs boot (pre ++ row_after a rec ∷ []) pre (row_after a rec) x (subst (λ (f : FileId). IsOf f x) (sym same) all.0) (subst (λ (f : FileId). AreOf f xs) (sym same) all.1)
     (subst (λ (f : FileId). AreBefore f pre) (sym same) before) (last_there pre (row_after a rec) (subst (λ (f : FileId). AreBefore f pre) (sym same) before))
   where
     same : (row_after a rec).file ≡ a.file
     same = row_after-file a rec
+
+-- the same from no row on, where a record of the file ends them
+ending : (boot : Boot) (pre : List FileRow) (file : FileId) (xs : List Record) (rec : Record) → AreOf file xs → IsOf file rec → AreBefore file pre
+    → fold folded_after (record { boot = boot; files = pre }) (xs ++ rec ∷ []) ≡ record { boot = boot; files = pre ++ fold row_after (new_row file) (xs ++ rec ∷ []) ∷ [] }
+ending boot pre file [] rec all of before = some_records [] boot pre pre (new_row file) rec of tt before (last_new pre file before)
+ending boot pre file (x ∷ xs) rec all of before =
+    some_records (xs ++ rec ∷ []) boot pre pre (new_row file) x all.0 (all_append (IsOf file) xs (rec ∷ []) all.1 (of, tt)) before (last_new pre file before)
 
 -- ---- held versions, one after the other
 
@@ -147,48 +156,70 @@ module _ (body : FileId → ℕ → Stamp → List ℕ) where
   all_below_none [] = tt
   all_below_none (v ∷ vs) = (tt, all_below_none vs)
 
-  stages_of : (file : FileId) (held : List ObjectVersion) (head : Record) → file_of head ≡ Some file → AreOf file (map (stage_of body file) held ++ head ∷ [])
-  stages_of file [] head is = (is, tt)
-  stages_of file (v ∷ vs) head is = (refl, stages_of file vs head is)
+  -- the list, which list is closed, and the bodies of a row
+  abbrev pub before_head : FileRow → List Record
+  before_head row = view_of row.file row.location ++ close_of row.file row.closed ++ map (stage_of body row.file) row.held
 
-  -- a row in which only the list is there
-  abbrev pub listed : FileId → Option Location → FileRow
-  listed file location = record { file = file; head = new_head; held = []; location = location }
+  -- what holds of a record of each of these kinds, holds of them
+  pub each_before : (P : Record → Type 0) (row : FileRow)
+      → ((location : Location) → P (kept.View row.file location)) → ((version : ℕ) → P (kept.Close row.file version)) → ((v : ObjectVersion) → P (stage_of body row.file v))
+      → AllByRecursion P (before_head row)
+  each_before P row view close stage =
+      all_append P (view_of row.file row.location ++ close_of row.file row.closed) (map (stage_of body row.file) row.held)
+      (all_append P (view_of row.file row.location) (close_of row.file row.closed) (viewed row.location) (closed row.closed))
+      (staged row.held)
+    where
+      viewed : (o : Option Location) → AllByRecursion P (view_of row.file o)
+      viewed None = tt
+      viewed (Some location) = (view location, tt)
 
-  -- the bodies and the head after the list
-  rest_says : (row : FileRow) → Ascend row.held → fold row_after (listed row.file row.location) (map (stage_of body row.file) row.held ++ kept.Head row.file row.head ∷ []) ≡ row
-  rest_says row up =
-      fold-append row_after (listed row.file row.location) (map (stage_of body row.file) row.held) (kept.Head row.file row.head ∷ [])
-      ∙ ap (λ (r : FileRow). record r { head = row.head }) (staged_all (listed row.file row.location) [] row.held (all_below_none row.held) up)
+      closed : (o : Option ℕ) → AllByRecursion P (close_of row.file o)
+      closed None = tt
+      closed (Some version) = (close version, tt)
+
+      staged : (held : List ObjectVersion) → AllByRecursion P (map (stage_of body row.file) held)
+      staged [] = tt
+      staged (v ∷ vs) = (stage v, staged vs)
+
+  -- and of the records of rows, where it holds of a head's too
+  pub each_of_rows : (P : Record → Type 0) → ((file : FileId) (location : Location) → P (kept.View file location)) → ((file : FileId) (version : ℕ) → P (kept.Close file version))
+      → ((file : FileId) (v : ObjectVersion) → P (stage_of body file v)) → ((file : FileId) (head : FileHead) → P (kept.Head file head))
+      → (rows : List FileRow) → AllByRecursion P (records_of_rows body rows)
+  each_of_rows P view close stage head [] = tt
+  each_of_rows P view close stage head (r ∷ rs) =
+      all_append P (records_of_row body r) (records_of_rows body rs)
+      (all_append P (before_head r) (kept.Head r.file r.head ∷ []) (each_before P r (view r.file) (close r.file) (stage r.file)) (head r.file r.head, tt))
+      (each_of_rows P view close stage head rs)
+
+  pub before_are : (row : FileRow) → AreOf row.file (before_head row)
+  before_are row = each_before (IsOf row.file) row (λ location. (refl, refl)) (λ version. (refl, refl)) (λ v. (refl, refl))
+
+  -- a row in which only the list is there, and which one is closed
+  abbrev pub listed : FileId → Option Location → Option ℕ → FileRow
+  listed file location closed = record { file = file; head = new_head; held = []; location = location; closed = closed }
+
+  opened : (file : FileId) (location : Option Location) (closed : Option ℕ)
+      → fold row_after (new_row file) (view_of file location ++ close_of file closed) ≡ listed file location closed
+  opened file None None = refl
+  opened file None (Some version) = refl
+  opened file (Some location) None = refl
+  opened file (Some location) (Some version) = refl
+
+  -- what is there before the head
+  pub before_says : (row : FileRow) → Ascend row.held → fold row_after (new_row row.file) (before_head row) ≡ record row { head = new_head }
+  before_says row up =
+      fold-append row_after (new_row row.file) (view_of row.file row.location ++ close_of row.file row.closed) (map (stage_of body row.file) row.held)
+      ∙ ap (λ (r : FileRow). fold row_after r (map (stage_of body row.file) row.held)) (opened row.file row.location row.closed)
+      ∙ staged_all (listed row.file row.location row.closed) [] row.held (all_below_none row.held) up
 
   -- the records of a row fold to it, after rows that come before it
   pub row_says : (boot : Boot) (pre : List FileRow) (row : FileRow) → Ascend row.held → AreBefore row.file pre
       → fold folded_after (record { boot = boot; files = pre }) (records_of_row body row) ≡ record { boot = boot; files = pre ++ row ∷ [] }
-  row_says boot pre row up before = at row.location refl
-    where
-      last : ComesLast pre pre (new_row row.file)
-      last = last_new pre row.file before
-
-      bare : (held : List ObjectVersion)
-          → fold folded_after (record { boot = boot; files = pre }) (map (stage_of body row.file) held ++ kept.Head row.file row.head ∷ [])
-          ≡ record { boot = boot; files = pre ++ fold row_after (new_row row.file) (map (stage_of body row.file) held ++ kept.Head row.file row.head ∷ []) ∷ [] }
-      bare [] = some_records [] boot pre pre (new_row row.file) (kept.Head row.file row.head) refl tt before last
-      bare (v ∷ vs) =
-          some_records (map (stage_of body row.file) vs ++ kept.Head row.file row.head ∷ []) boot pre pre (new_row row.file) (stage_of body row.file v) refl
-          (stages_of row.file vs (kept.Head row.file row.head) refl) before last
-
-      at : (o : Option Location) → row.location ≡ o
-          → fold folded_after (record { boot = boot; files = pre }) (view_of row.file o ++ map (stage_of body row.file) row.held ++ kept.Head row.file row.head ∷ [])
-          ≡ record { boot = boot; files = pre ++ row ∷ [] }
-      at None is =
-          bare row.held
-          ∙ ap (λ (r : FileRow). record { boot = boot; files = pre ++ r ∷ [] })
-          (ap (λ (o : Option Location). fold row_after (listed row.file o) (map (stage_of body row.file) row.held ++ kept.Head row.file row.head ∷ [])) (sym is) ∙ rest_says row up)
-      at (Some l) is =
-          some_records (map (stage_of body row.file) row.held ++ kept.Head row.file row.head ∷ []) boot pre pre (new_row row.file) (kept.View row.file l) refl
-          (stages_of row.file row.held (kept.Head row.file row.head) refl) before last
-          ∙ ap (λ (r : FileRow). record { boot = boot; files = pre ++ r ∷ [] })
-          (ap (λ (o : Option Location). fold row_after (listed row.file o) (map (stage_of body row.file) row.held ++ kept.Head row.file row.head ∷ [])) (sym is) ∙ rest_says row up)
+  row_says boot pre row up before =
+      ending boot pre row.file (before_head row) (kept.Head row.file row.head) (before_are row) (refl, refl) before
+      ∙ ap (λ (r : FileRow). record { boot = boot; files = pre ++ r ∷ [] })
+      (fold-append row_after (new_row row.file) (before_head row) (kept.Head row.file row.head ∷ [])
+      ∙ ap (λ (r : FileRow). record r { head = row.head }) (before_says row up))
 
   -- ---- all rows
 

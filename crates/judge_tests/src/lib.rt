@@ -81,9 +81,9 @@ mod tests {
         Ok(())
     }
 
-    /// Node 2 holds file 2 beside node 1, by the eighth entry.
+    /// Node 2 holds file 2 beside node 1, by the ninth entry. That the file's list was changed says nothing of it.
     const TWO_HOLDERS: &[u8] =
-        b"times 1000 100\nup 1 1 0\nup 2 1 0\nfile 1 rep 1024 1 2\nfile 2 rep 1024 1 2\nheld 1 1 1000\nheld 1 2 1000\nheld 2 2 1000\n";
+        b"times 1000 100\nup 1 1 0\nup 2 1 0\nfile 1 rep 1024 1 2\nfile 2 rep 1024 1 2\nheld 1 1 1000\nheld 1 2 1000\nlist 2 2 2 1\nheld 2 2 1000\n";
 
     #[test]
     fn the_broken_file_gives_the_verdict(rt: HostRuntime) -> Result<(), Fail> {
@@ -92,7 +92,7 @@ mod tests {
         let mut sink = MemorySink::new(rt.alloc(), 100, CallList::new(rt.alloc()))?;
         let status = audit_text(&rt, rt.alloc(), &mut source, &mut sink, &NoGate);
         assert_eq!(rt; status.code(), 17);
-        assert_eq!(rt; sink.as_slice(), b"! broken 5 8\n".as_slice());
+        assert_eq!(rt; sink.as_slice(), b"! broken 5 9\n".as_slice());
         Ok(())
     }
 }

@@ -181,6 +181,7 @@ module _ (file : ℕ) (whole : OpId → Option Call) where
   passes k (entry.Times lease drift) es come rests = silent k (entry.Times lease drift) stays refl refl refl refl refl (λ id. refl) refl refl
   passes k (entry.File number location) es come rests =
       silent k (entry.File number location) stays refl refl refl refl (ap (λ b. if b then Some location else None) rests) (λ id. refl) refl refl
+  passes k (entry.List number version members) es come rests = silent k (entry.List number version members) stays refl refl refl refl refl (λ id. refl) refl refl
   passes k (entry.Clock node clock) es come rests = absurd (true≢false rests)
   passes k (entry.Tick count) es come rests = silent k (entry.Tick count) (λ node s. refl) refl refl refl refl refl (λ id. refl) refl refl
   passes k (entry.Up node boot clock) es come rests = absurd (true≢false rests)

@@ -30,22 +30,11 @@ told (Some x) = (λ t. (x, refl), λ is. refl)
 -- ---- entries
 
 ok_is : (x : Entry) (a : Answer) → ok_told x ≡ Some a → x ≡ ok_entry a.id a.count a.bytes
-ok_is (entry.Times lease drift) a is = absurd (cc (is))
-ok_is (entry.File number location) a is = absurd (cc (is))
-ok_is (entry.Clock m clock) a is = absurd (cc (is))
-ok_is (entry.Tick count) a is = absurd (cc (is))
-ok_is (entry.Up m boot clock) a is = absurd (cc (is))
-ok_is (entry.Down m clock how) a is = absurd (cc (is))
-ok_is (entry.Begin client number c) a is = absurd (cc (is))
-ok_is (entry.Held m f end) a is = absurd (cc (is))
-ok_is (entry.Active m f count id) a is = absurd (cc (is))
-ok_is (entry.Issue m f count id) a is = absurd (cc (is))
-ok_is (entry.Commit m f count id) a is = absurd (cc (is))
-ok_is (entry.Answer m f id count bytes) a is = absurd (cc (is))
 ok_is (entry.Done client number (outcome.Ok count bytes)) a is =
     let it : (let x : Answer = record { id = id_of client number; count = count; bytes = bytes } in x) ≡ a = cc (is) in
     ap (λ (x : Answer). ok_entry x.id x.count x.bytes) it
 ok_is (entry.Done client number _) a is = absurd (cc (is))
+ok_is _ a is = absurd (cc (is))
 
 own_ok : (id : OpId) (count : ℕ) (bytes : List ℕ) → ok_told (ok_entry id count bytes) ≡ Some (let x : Answer = record { id = id; count = count; bytes = bytes } in x)
 own_ok id count bytes = refl
@@ -54,24 +43,13 @@ not_begin : (id other : OpId) (count : ℕ) (bytes : List ℕ) → call_begun ot
 not_begin id other count bytes = refl
 
 begin_is : (id : OpId) (x : Entry) (c : Call) → call_begun id x ≡ Some c → (client : NodeId) × (number : ℕ) × (x ≡ entry.Begin client number c) × (id ≡ id_of client number)
-begin_is id (entry.Times lease drift) c is = absurd (cc (is))
-begin_is id (entry.File number location) c is = absurd (cc (is))
-begin_is id (entry.Clock m clock) c is = absurd (cc (is))
-begin_is id (entry.Tick count) c is = absurd (cc (is))
-begin_is id (entry.Up m boot clock) c is = absurd (cc (is))
-begin_is id (entry.Down m clock how) c is = absurd (cc (is))
 begin_is id (entry.Begin client number d) c is = by (is_id id (id_of client number)) refl is
   where
     by : (b : Bool) → is_id id (id_of client number) ≡ b → (if b then Some d else None) ≡ Some c
         → (client_of : NodeId) × (number_of : ℕ) × (entry.Begin client number d ≡ entry.Begin client_of number_of c) × (id ≡ id_of client_of number_of)
     by true same is = (client, number, ap (entry.Begin client number) (let it : d ≡ c = cc (is) in it), (same_id id (id_of client number)).0 same)
     by false same is = absurd (cc (is))
-begin_is id (entry.Held m f end) c is = absurd (cc (is))
-begin_is id (entry.Active m f count write) c is = absurd (cc (is))
-begin_is id (entry.Issue m f count write) c is = absurd (cc (is))
-begin_is id (entry.Commit m f count write) c is = absurd (cc (is))
-begin_is id (entry.Answer m f write count bytes) c is = absurd (cc (is))
-begin_is id (entry.Done client number ended) c is = absurd (cc (is))
+begin_is id _ c is = absurd (cc (is))
 
 own_begin : (client : NodeId) (number : ℕ) (c : Call) → call_begun (id_of client number) (entry.Begin client number c) ≡ Some c
 own_begin client number c = ap (λ (b : Bool). if b then Some c else None) ((same_id (id_of client number) (id_of client number)).1 refl)
@@ -238,12 +216,6 @@ module _ (file : ℕ) (es : List Entry) (e : Entry) where
       vacuous x is never = (λ t client number c same none op done. never client number c (sym is ∙ same), λ h. refl)
 
       begin : (x : Entry) → e ≡ x → Decides (fits_begin file k x) BeginThen
-      begin (entry.Times lease drift) is = vacuous (entry.Times lease drift) is (λ client number c nay. cc (nay))
-      begin (entry.File number location) is = vacuous (entry.File number location) is (λ client n c nay. cc (nay))
-      begin (entry.Clock m clock) is = vacuous (entry.Clock m clock) is (λ client number c nay. cc (nay))
-      begin (entry.Tick count) is = vacuous (entry.Tick count) is (λ client number c nay. cc (nay))
-      begin (entry.Up m boot clock) is = vacuous (entry.Up m boot clock) is (λ client number c nay. cc (nay))
-      begin (entry.Down m clock how) is = vacuous (entry.Down m clock how) is (λ client number c nay. cc (nay))
       begin (entry.Begin client number c) is =
           Decides-like (is_told (k.calls id) || (not (is_told (operation_on file (Some c))) || not (k.ended id))) from to
           (Decides-or (is_told (k.calls id)) (not (is_told (operation_on file (Some c))) || not (k.ended id)) before
@@ -274,9 +246,4 @@ module _ (file : ℕ) (es : List Entry) (e : Entry) where
                   → ((d : Call) × (begun (id_of client number) es ≡ Some d)) ⊎ ((operation : Op) × (operation_on file (Some c) ≡ Some operation) → HasEnded es (id_of client number) → ⊥)
               by None none = inr (λ op done. h client number c is none op done)
               by (Some d) some = inl (d, some)
-      begin (entry.Held m f end) is = vacuous (entry.Held m f end) is (λ client number c nay. cc (nay))
-      begin (entry.Active m f count write) is = vacuous (entry.Active m f count write) is (λ client number c nay. cc (nay))
-      begin (entry.Issue m f count write) is = vacuous (entry.Issue m f count write) is (λ client number c nay. cc (nay))
-      begin (entry.Commit m f count write) is = vacuous (entry.Commit m f count write) is (λ client number c nay. cc (nay))
-      begin (entry.Answer m f write count bytes) is = vacuous (entry.Answer m f write count bytes) is (λ client number c nay. cc (nay))
-      begin (entry.Done client number outcome) is = vacuous (entry.Done client number outcome) is (λ other n c nay. cc (nay))
+      begin x is = vacuous x is (λ client number c nay. cc (nay))

@@ -8,12 +8,11 @@ use Rattle.xt_messages.specs.declared.message.Msg.{Msg}
 use Rattle.xt_messages.specs.declared.message.Payload.{Payload}
 use Rattle.xt_messages.specs.declared.event.Event.TheVariants as event
 use Rattle.xt_messages.specs.declared.record.Record.{Record}
-use Rattle.xt_messages.specs.declared.record.Record.TheVariants as kept
 use Rattle.xt_messages.specs.declared.record.FileRow.{FileRow}
 use Rattle.xt_protocol.specs.FileIds.{is_file, is_before}
 use Rattle.xt_protocol.specs.LeaseRows.{Awake, awake_at, LeaseState, free, asking, writing, held}
 use Rattle.lease_runs.specs.LeaseWorld.{LeaseSetting, LeaseRow, row_asks}
-use Rattle.xt_protocol.proofs.Folds.{file-equal, file-itself, file-back, file-along}
+use Rattle.xt_protocol.proofs.Folds.{file-equal, file-itself, file-back, file-along, row_after-file}
 use Rattle.xt_protocol.specs.ReplicaRows.{kept_after}
 use Rattle.xt_protocol.specs.FileStates.{FileState, Site, FileStep}
 use Rattle.xt_protocol.specs.Overdue.{expired}
@@ -75,13 +74,7 @@ at_file awake (r ∷ rs) file = one_of (at_file awake rs file) (is_file r.kept.f
 -- a record leaves the file what it is
 record_keeps : (row : FileRow) (rec : Option Record) → (kept_after row rec).file ≡ row.file
 record_keeps row None = refl
-record_keeps row (Some (kept.Promise file epoch)) = refl
-record_keeps row (Some (kept.Update file update)) = refl
-record_keeps row (Some (kept.Stage file object version bytes)) = refl
-record_keeps row (Some (kept.Head file head)) = refl
-record_keeps row (Some (kept.View file location)) = refl
-record_keeps row (Some (kept.Boot boot)) = refl
-record_keeps row (Some (kept.Meta from number now nodes request)) = refl
+record_keeps row (Some rec) = row_after-file row rec
 
 pub step_keeps : (site : Site) (s : FileState) (from : NodeId) (content : Payload) → (step_of_file site s from content).state.kept.file ≡ s.kept.file
 step_keeps site s from content =

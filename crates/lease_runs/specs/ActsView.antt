@@ -55,8 +55,7 @@ RecordIs file content (Some (kept.Update f update)) = f ≡ file
 RecordIs file content (Some (kept.Stage f object version bytes)) = f ≡ file
 RecordIs file content (Some (kept.Head f head)) = f ≡ file
 RecordIs file content (Some (kept.View f location)) = (f ≡ file) × ListAsked content location
-RecordIs file content (Some (kept.Boot boot)) = ⊥
-RecordIs file content (Some (kept.Meta from number now nodes request)) = ⊥
+RecordIs file content (Some _) = ⊥
 
 -- What the steps of a file mark and record: a message, and a Wake.
 pub record ShowsActs : Type 0 where

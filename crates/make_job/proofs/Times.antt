@@ -29,13 +29,7 @@ still_first (e ∷ es) more first none = no_times-append es more first none
 -- no mark of a node reports them
 mark_untimed : (node : NodeId) (m : Mark) → times_told (entry_of node m) ≡ None
 mark_untimed node (mark.File file location) = refl
-mark_untimed node (mark.Begin number call) = refl
-mark_untimed node (mark.Held file end) = refl
-mark_untimed node (mark.Active file count id) = refl
-mark_untimed node (mark.Issue file count id) = refl
-mark_untimed node (mark.Commit file count id) = refl
-mark_untimed node (mark.Answer file id count bytes) = refl
-mark_untimed node (mark.Done number outcome) = refl
+mark_untimed node _ = refl
 
 marks_untimed : (node : NodeId) (ms : List Mark) → HaveNoTimes (map (entry_of node) ms)
 marks_untimed node [] = tt

@@ -52,7 +52,8 @@ pub fn made_line(
     push_count(alloc, &mut line, b"reads", counts.reads)?;
     push_count(alloc, &mut line, b"commits", counts.commits)?;
     line.extend_from_slice(b" safe\n")?;
-    Ok(Octets::from(line))
+    let made = Octets::from_vec(line)?;
+    Ok(made)
 }
 
 /// Puts the line of a make that is done.

@@ -3,3 +3,4 @@ pub mod Calling
 pub mod Sizes
 pub mod Noting
 pub mod Fitting
+pub mod Hearing

@@ -1,15 +1,16 @@
 ghost use Rattle.std.specs.Prelude.{◌≡◌, IfOk};
+ghost use Rattle.volume_rows.specs.Grants.{located};
 ghost use Rattle.server_rows.specs.Requests as rows;
 ghost use Rattle.mrc_core.specs.Asking.{IsSite};
 ghost use Rattle.mrc_core.specs.Plans.{IsPlan, IsGrantPlan, IsReportPlan};
 
 use crate::asking::Site;
 use crate::catalogue::Catalogue;
-use crate::settling::{Settling, TO_TRUNCATE, grant_settled, report_settled};
+use crate::settling::{Settling, TO_READ, TO_TRUNCATE, grant_settled, report_settled};
 use std::alloc::Global;
 use volume_rows::{Asker, Granting};
 use xt_base::{COUNTS, OutOfMemory};
-use xt_messages::{MetaAnswer, MetaRefusal, MetaReq};
+use xt_messages::{Kind, MetaAnswer, MetaRefusal, MetaReq};
 
 /// What is to come of a fresh request.
 #[derive(Drop)]
@@ -70,6 +71,24 @@ fn plan_of_report(settling: Settling) -> Plan
     }
 }
 
+/// What a Locate is answered, by what is granted for reading.
+fn located(granted: Result<Granting, MetaRefusal>) -> MetaAnswer
+    ensures { result ≡ located granted }
+{
+    match granted {
+        Err(why) => MetaAnswer::Refused { refusal: why },
+        Ok(grant) => match grant.location.kind {
+            Kind::Replicated => MetaAnswer::Located {
+                location: grant.location,
+                changing: false,
+            },
+            Kind::Striped => MetaAnswer::Refused {
+                refusal: MetaRefusal::NotReplicated,
+            },
+        },
+    }
+}
+
 impl Catalogue {
     /// What is to come of a fresh request.
     pub fn plan(
@@ -106,6 +125,13 @@ impl Catalogue {
                 )?;
                 Ok(plan_of_report(settling))
             }
+            // it isn't taken, so nobody is told this
+            MetaReq::Change { .. } => Ok(Plan::Tell {
+                answer: MetaAnswer::Done,
+            }),
+            MetaReq::Locate { path } => Ok(Plan::Tell {
+                answer: located(self.granted(who, path, TO_READ)?),
+            }),
         }
     }
 }

@@ -15,7 +15,7 @@ use crate::settling::{Settled, Settling};
 use reply_cache::Standing;
 use std::alloc::Global;
 use xt_base::{Copies, MRC_NODE, Members, NodeId, OptionalBox, OutOfMemory, Seq};
-use xt_messages::{Logged, Marks, MetaAnswer, Msg, Msgs, Payload, Record};
+use xt_messages::{Logged, Marks, MetaAnswer, MetaReq, Msg, Msgs, Payload, Record};
 use xt_protocol::{Turned, message, quiet, sends_one};
 
 /// An answer to a client.
@@ -201,6 +201,13 @@ fn fresh(
     }
 }
 
+/// Whether the server takes a request: one to change a file's list isn't taken yet.
+fn is_taken(request: &MetaReq) -> bool
+    ensures { result ≡ rows.is_taken request.now }
+{
+    !matches!(request, MetaReq::Change { .. })
+}
+
 /// Handles a request, by how its number stands to the client's last recorded one. Nothing changes if memory runs out.
 pub fn requested(
     alloc: Global,
@@ -216,6 +223,9 @@ pub fn requested(
         (requested_at site.now catalogue.old asking.now).mrc) }
     ensures err { OnErr result (catalogue.new ≡ catalogue.old) }
 {
+    if !is_taken(asking.request) {
+        return Ok(quiet(alloc));
+    }
     match catalogue.standing(alloc, asking.client, asking.number)? {
         Standing::Fresh => fresh(alloc, catalogue, site, asking),
         Standing::Again { answer } => {

@@ -12,7 +12,7 @@ use xt_base::{OutOfMemory, SizeMark};
 use xt_messages::{Capability, MetaAnswer, MetaRefusal};
 
 /// The `want` of a grant that is only to read.
-const TO_READ: u8 = 1;
+pub const TO_READ: u8 = 1;
 
 /// The `want` of a grant that is to truncate.
 pub const TO_TRUNCATE: u8 = 3;

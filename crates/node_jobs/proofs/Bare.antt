@@ -1,5 +1,5 @@
 -- What a store has of its records in memory, without their bodies, says what they say.
-use Rattle.std.proofs.Common.{ℕ, ◌≡◌, ◌∙◌, Bool, true, false, List, get_or, refl, ap, sym, subst}
+use Rattle.std.proofs.Common.{ℕ, ◌≡◌, ◌∙◌, Bool, true, false, List, [], get_or, refl, ap, sym, subst}
 use Rattle.std.specs.List.{All}
 use Rattle.std.proofs.lemmas.List.Elements.{All-map}
 use Rattle.xt_base.specs.declared.ids.Boot.{Boot}
@@ -8,6 +8,7 @@ use Rattle.xt_messages.specs.declared.record.Record.{Record}
 use Rattle.xt_messages.specs.declared.record.Record.TheVariants as kept
 use Rattle.xt_protocol.specs.Folds.{boot_after, fold_of}
 use Rattle.replica_records.specs.Known.{as_known}
+use Rattle.replica_records.proofs.BodyLaws.{unseen}
 use Rattle.object_store.specs.Bare.{bare, bare_of}
 use Rattle.object_store.proofs.BareFolds.{boot_bare, fold_bare, fold_of_bare}
 use Rattle.osd_core.specs.Slots.{AreRows}
@@ -30,37 +31,25 @@ pub rows_bare : (given records : List Record) → given ≡ bare_of records → 
 rows_bare given records is rows = subst (λ (f : Folded). AreRows f.files) (sym (ap fold_of is ∙ fold_bare records)) rows
 
 dir_same : (dir : DirState) (rec : Record) → directory.after_record dir (bare rec) ≡ directory.after_record dir rec
-dir_same dir (kept.Boot b) = refl
-dir_same dir (kept.Promise file epoch) = refl
-dir_same dir (kept.Update file update) = refl
-dir_same dir (kept.Stage file object version bytes) = refl
-dir_same dir (kept.Head file head) = refl
-dir_same dir (kept.View file location) = refl
-dir_same dir (kept.Meta from number now nodes request) = refl
+dir_same dir =
+    unseen (λ r s. directory.after_record dir r ≡ directory.after_record dir s) (λ file update body. refl) (λ file object version bytes body. refl)
+    (λ file update body. refl) (λ file object version bytes body. refl) (λ r. refl) []
 
 pub dir_bare : (records : List Record) → dir_of (bare_of records) ≡ dir_of records
 dir_bare records = fold_of_bare directory.after_record dir_same empty_dir records
 
 mrc_same : (key : List ℕ) (catalogue : Catalogue) (rec : Record) → metadata.after_record key catalogue (bare rec) ≡ metadata.after_record key catalogue rec
-mrc_same key catalogue (kept.Boot b) = refl
-mrc_same key catalogue (kept.Promise file epoch) = refl
-mrc_same key catalogue (kept.Update file update) = refl
-mrc_same key catalogue (kept.Stage file object version bytes) = refl
-mrc_same key catalogue (kept.Head file head) = refl
-mrc_same key catalogue (kept.View file location) = refl
-mrc_same key catalogue (kept.Meta from number now nodes request) = refl
+mrc_same key catalogue =
+    unseen (λ r s. metadata.after_record key catalogue r ≡ metadata.after_record key catalogue s) (λ file update body. refl)
+    (λ file object version bytes body. refl) (λ file update body. refl) (λ file object version bytes body. refl) (λ r. refl) []
 
 pub mrc_bare : (key : List ℕ) (records : List Record) → catalogue_of key (bare_of records) ≡ catalogue_of key records
 mrc_bare key records = fold_of_bare (metadata.after_record key) (mrc_same key) empty_catalogue records
 
 taken_same : (rec : Record) → CanTake rec → CanTake (bare rec)
-taken_same (kept.Boot b) can = can
-taken_same (kept.Promise file epoch) can = can
-taken_same (kept.Update file update) can = can
-taken_same (kept.Stage file object version bytes) can = can
-taken_same (kept.Head file head) can = can
-taken_same (kept.View file location) can = can
-taken_same (kept.Meta from number now nodes request) can = can
+taken_same =
+    unseen (λ r s. CanTake s → CanTake r) (λ file update body can. can) (λ file object version bytes body can. can)
+    (λ file update body can. can) (λ file object version bytes body can. can) (λ r can. can) []
 
 -- and each can be taken
 pub taken_bare : (given records : List Record) → given ≡ bare_of records → All CanTake records → All CanTake given

@@ -46,10 +46,14 @@ impl Book {
         Ok(())
     }
 
-    /// Learns a row of the registry, if its address isn't too long.
+    /// Learns a row of the registry, if its address isn't too long, and its node isn't 0 or the DIR, which is reached where the node was
+    /// told that it is.
     fn put_row(&mut self, row: &RegistryRow) -> Result<(), OutOfMemory>
         ensures { OnOk result (self.new ≡ with_row self.old row.now) }
     {
+        if row.node.0 == 0 || row.node == DIR_NODE {
+            return Ok(());
+        }
         match Address::of(row.address.as_str()) {
             Some(address) => self.put(row.node, address),
             None => Ok(()),

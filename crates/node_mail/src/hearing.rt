@@ -10,6 +10,9 @@ use xt_frames::{FrameErr, decode};
 use xt_messages::Msg;
 use xt_parts::{JoinErr, Joiner, Whole};
 
+/// The version of a file's first list.
+const FIRST_LIST: u32 = 1;
+
 /// What a node keeps of its link. Contracts see the half joined messages and the addresses.
 #[derive(Drop)]
 pub struct Ears {
@@ -53,7 +56,7 @@ impl Ears {
         self.book.put(node, address)
     }
 
-    /// What comes of a joined message: the message, if it is one whole frame for this node.
+    /// What comes of a joined message: the message, if it is one whole frame for this node, of the first list of its file.
     fn hear_whole(
         &mut self,
         node: NodeId,
@@ -68,7 +71,7 @@ impl Ears {
         let bytes = whole.bytes.as_slice();
         match decode(self.alloc, bytes) {
             Ok((msg, len)) => {
-                if len != bytes.len() || msg.to != node {
+                if len != bytes.len() || msg.to != node || msg.list != FIRST_LIST {
                     return Ok(None);
                 }
                 self.book.learn(&msg)?;

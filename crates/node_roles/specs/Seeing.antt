@@ -1,14 +1,15 @@
 -- A node runs on what is known of its records, and on what it sees of them, alike: what it makes of records doesn't depend on bodies.
-use Rattle.std.proofs.Common.{◌≡◌, ◌∙◌, ℕ, Bool, true, false, List, [], ◌∷◌, map, refl, sym, ap, subst}
+use Rattle.std.proofs.Common.{◌≡◌, ◌∙◌, ℕ, Bool, true, false, List, [], ◌∷◌, length, map, replicate, refl, sym, ap, subst}
 use Rattle.std.specs.List.{AllByRecursion, fold}
 use Rattle.std.proofs.lemmas.List.Elements.{recursion_from_All}
 use Rattle.xt_messages.specs.Limits.{FitsRecord}
 use Rattle.xt_messages.specs.declared.record.Folded.{Folded}
 use Rattle.xt_messages.specs.declared.record.Record.{Record}
-use Rattle.xt_messages.specs.declared.record.Record.TheVariants as kept
 use Rattle.xt_protocol.specs.Folds.{AreInPlace, fold_of, nothing_kept, row_in}
 use Rattle.xt_protocol.specs.OsdSteps.{OsdState}
+use Rattle.replica_records.specs.Bare.{body_in}
 use Rattle.replica_records.specs.Known.{as_known, known_of, Sees}
+use Rattle.replica_records.proofs.BodyLaws.{fold_map, unseen}
 use Rattle.replica_records.proofs.Known.{are_in_place_known, fits_known, fold_known, known_are_in_place}
 use Rattle.server_rows.specs.Directory.{DirState, dir_of, empty_dir}
 use Rattle.server_rows.specs.Directory as directory
@@ -18,12 +19,6 @@ use Rattle.server_limits.specs.Keeping.{DirRunsOn, MrcRunsOn}
 use Rattle.world_limits.specs.States.{RowIs}
 use Rattle.node_roles.specs.Roles.{OsdRunsOn}
 
--- records that each say the same say the same in all
-pub folds_same : {S : Type 0} (after : S → Record → S) (f : Record → Record) → ((s : S) (rec : Record) → after s (f rec) ≡ after s rec)
-    → (s : S) (records : List Record) → fold after s (map f records) ≡ fold after s records
-folds_same after f same s [] = refl
-folds_same after f same s (rec ∷ records) = ap (λ t. fold after t (map f records)) (same s rec) ∙ folds_same after f same (after s rec) records
-
 all_fit_known : (told : Bool) (records : List Record) → AllByRecursion FitsRecord records → AllByRecursion FitsRecord (known_of told records)
 all_fit_known told [] fit = tt
 all_fit_known told (rec ∷ records) fit = (fits_known told rec fit.0, all_fit_known told records fit.1)
@@ -32,16 +27,12 @@ all_fit_known told (rec ∷ records) fit = (fits_known told rec fit.0, all_fit_k
 
 dir_after : (told : Bool) (dir : DirState) (rec : Record) → directory.after_record dir (as_known told rec) ≡ directory.after_record dir rec
 dir_after true dir rec = refl
-dir_after false dir (kept.Boot boot) = refl
-dir_after false dir (kept.Promise file epoch) = refl
-dir_after false dir (kept.Update file update) = refl
-dir_after false dir (kept.Stage file object version bytes) = refl
-dir_after false dir (kept.Head file head) = refl
-dir_after false dir (kept.View file location) = refl
-dir_after false dir (kept.Meta from number now nodes request) = refl
+dir_after false dir rec =
+    unseen (λ r s. directory.after_record dir r ≡ directory.after_record dir s) (λ file update body. refl) (λ file object version bytes body. refl)
+    (λ file update body. refl) (λ file object version bytes body. refl) (λ r. refl) (replicate (length (body_in rec)) 0) rec
 
 pub dir_known : (told : Bool) (records : List Record) → dir_of (known_of told records) ≡ dir_of records
-dir_known told records = folds_same directory.after_record (as_known told) (dir_after told) empty_dir records
+dir_known told records = fold_map directory.after_record (as_known told) (dir_after told) empty_dir records
 
 pub dir_seen_runs : (told : Bool) (known seen : List Record) (dir : DirState) → Sees told known seen → DirRunsOn known dir → DirRunsOn seen dir
 dir_seen_runs told known seen dir sees runs = record {
@@ -62,16 +53,13 @@ dir_known_runs told records dir runs = record {
 mrc_after : (key : List ℕ) (told : Bool) (catalogue : Catalogue) (rec : Record)
     → metadata.after_record key catalogue (as_known told rec) ≡ metadata.after_record key catalogue rec
 mrc_after key true catalogue rec = refl
-mrc_after key false catalogue (kept.Boot boot) = refl
-mrc_after key false catalogue (kept.Promise file epoch) = refl
-mrc_after key false catalogue (kept.Update file update) = refl
-mrc_after key false catalogue (kept.Stage file object version bytes) = refl
-mrc_after key false catalogue (kept.Head file head) = refl
-mrc_after key false catalogue (kept.View file location) = refl
-mrc_after key false catalogue (kept.Meta from number now nodes request) = refl
+mrc_after key false catalogue rec =
+    unseen (λ r s. metadata.after_record key catalogue r ≡ metadata.after_record key catalogue s) (λ file update body. refl)
+    (λ file object version bytes body. refl) (λ file update body. refl) (λ file object version bytes body. refl) (λ r. refl)
+    (replicate (length (body_in rec)) 0) rec
 
 pub mrc_known : (key : List ℕ) (told : Bool) (records : List Record) → catalogue_of key (known_of told records) ≡ catalogue_of key records
-mrc_known key told records = folds_same (metadata.after_record key) (as_known told) (mrc_after key told) empty_catalogue records
+mrc_known key told records = fold_map (metadata.after_record key) (as_known told) (mrc_after key told) empty_catalogue records
 
 pub mrc_seen_runs : (key : List ℕ) (told : Bool) (known seen : List Record) (mrc : MrcState) → Sees told known seen → MrcRunsOn key known mrc
     → MrcRunsOn key seen mrc

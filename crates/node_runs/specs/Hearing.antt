@@ -1,5 +1,5 @@
 -- what a node makes of the datagrams that it receives
-use Rattle.std.specs.Prelude.{ℕ, ◌==◌, ◌&&◌, nat_le, if◌then◌else◌, Option, Some, None, Result, Ok, Err, List, [], length, fold}
+use Rattle.std.specs.Prelude.{ℕ, Bool, not, ◌==◌, ◌&&◌, nat_le, if◌then◌else◌, Option, Some, None, Result, Ok, Err, List, [], length, fold}
 use Rattle.std.specs.Ordering.{nat_cmp, is_eq}
 use Rattle.std.specs.BTreeMap.{insert_entry}
 use Rattle.std.specs.Map.{lookup}
@@ -26,9 +26,15 @@ address_of book node = lookup (λ n. is_eq (nat_cmp node.0 n)) book
 abbrev pub with_address : Book → NodeId → List ℕ → Book
 with_address book node address = insert_entry nat_cmp book node.0 address
 
+-- Whether a row of the registry may say where this node is reached: none of the number 0, and the directory service is reached where a
+-- node was told that it is.
+abbrev pub is_told_by_row : NodeId → Bool
+is_told_by_row node = not (node.0 == 0) && not (node.0 == 900)
+
 -- a row of the registry whose address is too long gives none
 abbrev pub with_row : Book → RegistryRow → Book
-with_row book row = if nat_le (length row.address) 64 then with_address book row.node row.address else book
+with_row book row =
+    if is_told_by_row row.node && nat_le (length row.address) 64 then with_address book row.node row.address else book
 
 abbrev pub with_rows : Book → List RegistryRow → Book
 with_rows book rows = fold with_row book rows
@@ -60,11 +66,12 @@ pub record Heard : Type 0 where
   pub ears : Ears
   pub message : Option Msg
 
--- a joined message is heard where it is one whole frame for this node
+-- A joined message is heard where it is one whole frame for this node, of the first list of its file: lists don't change yet, so no
+-- node takes a message of a later one.
 abbrev pub frame_heard : NodeId → Ears → ℕ → Result (Msg × ℕ) FrameErr → Heard
 frame_heard node ears size (Err fault) = record { ears = ears; message = None }
 frame_heard node ears size (Ok read) =
-    if (read.1 == size) && (read.0.to.0 == node.0)
+    if (read.1 == size) && (read.0.to.0 == node.0) && (read.0.list == 1)
     then record { ears = record ears { book = learns ears.book read.0 }; message = Some read.0 }
     else record { ears = ears; message = None }
 

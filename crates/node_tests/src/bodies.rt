@@ -2,7 +2,7 @@
 //! that is read from a file, and not which bytes it has.
 ghost use Rattle.std.specs.Prelude.{◌≤◌, ◌<◌, ◌^◌, IfOk, length};
 ghost use Rattle.xt_base.specs.declared.TheConstants.{BODY};
-ghost use Rattle.xt_messages.specs.Limits.{FitsRecord, IsObject};
+ghost use Rattle.xt_messages.specs.Limits.{FitsRecord};
 ghost use Rattle.xt_messages.specs.declared.record.Folded.{Folded};
 ghost use Rattle.xt_protocol.specs.Folds.{IsInPlace};
 
@@ -34,8 +34,7 @@ const VERSION: Stamp = Stamp {
 
 /// The record that puts these bytes as the body of an object.
 fn stage(alloc: Global, object: u64, body: &[u8]) -> Result<Record, OutOfMemory>
-    requires object { IsObject object }
-    requires few { length body.now ≤ BODY }
+    requires { length body.now ≤ BODY }
     ensures fits { IfOk result FitsRecord }
     ensures placed { IfOk result (λ rec. (folded : Folded) → IsInPlace folded rec) }
 {
@@ -57,8 +56,7 @@ fn loaded<D: Disk>(alloc: Global, disk: D) -> Option<Store<D>> {
 
 /// The store with these bytes put as the body of an object.
 fn with_body<D: Disk>(alloc: Global, store: Store<D>, object: u64, body: &[u8]) -> Option<Store<D>>
-    requires object { IsObject object }
-    requires few { length body.now ≤ BODY }
+    requires { length body.now ≤ BODY }
 {
     let Ok(rec) = stage(alloc, object, body) else {
         return None;

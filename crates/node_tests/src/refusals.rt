@@ -67,7 +67,7 @@ fn is_bad<D: Disk>(alloc: Global, disk: D) -> bool {
 
 #[test]
 fn a_record_is_refused(rt: HostRuntime) {
-    let bytes = b"XTFSJRNL\0\0\0\x01\xa5\0\0\0\x01\x09\0";
+    let bytes = b"XTFSJRNL\0\0\0\x01\xa5\0\0\0\x01\x14\0";
     assert!(rt; is_bad(rt.alloc(), disk(&rt, rt.alloc(), bytes)));
 }
 

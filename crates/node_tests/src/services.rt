@@ -15,7 +15,7 @@ use xt_messages::{
 const KEY: [u8; 32] = [0; 32];
 
 /// How many requests a life has.
-const LIFE: u64 = 9;
+const LIFE: u64 = 10;
 
 fn name(rt: &impl Abort, alloc: Global, text: &str) -> Name {
     Name::of(alloc, text).expect(rt, OTHERWISE)
@@ -79,22 +79,25 @@ fn request(rt: &impl Abort, alloc: Global, number: u64) -> MetaReq
             path: name(rt, alloc, "/v/a"),
             want: 2,
         },
-        4 => MetaReq::Stat {
+        4 => MetaReq::Locate {
             path: name(rt, alloc, "/v/a"),
         },
-        5 => MetaReq::Chmod {
+        5 => MetaReq::Stat {
+            path: name(rt, alloc, "/v/a"),
+        },
+        6 => MetaReq::Chmod {
             path: name(rt, alloc, "/v/a"),
             mode: 0o600,
         },
-        6 => MetaReq::Rename {
+        7 => MetaReq::Rename {
             from: name(rt, alloc, "/v/a"),
             to: name(rt, alloc, "/v/b"),
         },
-        7 => MetaReq::List {
+        8 => MetaReq::List {
             path: name(rt, alloc, "/v"),
             after: name(rt, alloc, ""),
         },
-        8 => MetaReq::Unlink {
+        9 => MetaReq::Unlink {
             path: name(rt, alloc, "/v/b"),
         },
         _ => MetaReq::Rmdir {

@@ -1,11 +1,11 @@
 -- records with the bytes that are in their places
-use Rattle.std.proofs.Common.{◌≡◌, ◌+◌, ◌<◌, ℕ, zero, suc, Bool, true, false, List, [], ◌∷◌, ◌++◌, length, map, replicate, get_or, set, take, drop, append_assoc, refl, ap, sym, ◌∙◌, arith}
-use Rattle.std.proofs.lemmas.List.{drop_more, get_or_at, length-map, length-replicate, length-take-le, map-append, set_at, take_more}
+use Rattle.std.proofs.Common.{◌≡◌, ◌⊎◌, inl, inr, ◌+◌, ◌<◌, ◌≤◌, ℕ, zero, suc, Bool, true, false, List, [], ◌∷◌, ◌++◌, length, map, replicate, get_or, set, take, drop, append_assoc, refl, ap, sym, subst, ◌∙◌, arith}
+use Rattle.std.proofs.lemmas.List.{drop_more, get_or_at, length-map, length-replicate, length-take, length-take-le, map-append, set_at, take_more}
 use Rattle.xt_base.specs.Faults.{counted}
 use Rattle.xt_messages.specs.declared.record.Record.{Record}
-use Rattle.xt_messages.specs.declared.record.Record.TheVariants as kept
 use Rattle.replica_records.specs.Known.{known_of, without_body}
 use Rattle.replica_records.specs.Places.{key_put, body_in, body_at}
+use Rattle.replica_records.proofs.BodyLaws.{Puts, PutsNone, key_set, puts_or_none, set_back, set_get, set_set}
 use Rattle.replica_records.proofs.Known.{known_told}
 use Rattle.object_store.specs.declared.place.BodyPlace.{BodyPlace}
 use Rattle.object_store.specs.Bare.{bare, bare_of, with_body}
@@ -15,65 +15,52 @@ use Rattle.object_store.specs.Places.{ArePairs, IsPair, bytes_at, filled, later}
 
 -- it puts the same body, with other bytes
 pub same_key : (bytes : List ℕ) (rec : Record) → key_put (with_body bytes rec) ≡ key_put rec
-same_key bytes (kept.Update file update) = refl
-same_key bytes (kept.Stage file object version body) = refl
-same_key bytes (kept.Boot boot) = refl
-same_key bytes (kept.Promise file epoch) = refl
-same_key bytes (kept.Head file head) = refl
-same_key bytes (kept.View file location) = refl
-same_key bytes (kept.Meta from number now nodes request) = refl
+same_key bytes rec = key_set bytes rec
 
 pub with_own : (rec : Record) → with_body (body_in rec) (bare rec) ≡ rec
-with_own (kept.Update file update) = refl
-with_own (kept.Stage file object version bytes) = refl
-with_own (kept.Boot boot) = refl
-with_own (kept.Promise file epoch) = refl
-with_own (kept.Head file head) = refl
-with_own (kept.View file location) = refl
-with_own (kept.Meta from number now nodes request) = refl
+with_own rec = set_back [] rec
 
 -- with zeros it is what is known of it
 pub with_zeros : (rec : Record) → with_body (replicate (length (body_in rec)) 0) (bare rec) ≡ without_body rec
-with_zeros (kept.Update file update) = refl
-with_zeros (kept.Stage file object version bytes) = refl
-with_zeros (kept.Boot boot) = refl
-with_zeros (kept.Promise file epoch) = refl
-with_zeros (kept.Head file head) = refl
-with_zeros (kept.View file location) = refl
-with_zeros (kept.Meta from number now nodes request) = refl
+with_zeros rec = set_set (replicate (length (body_in rec)) 0) [] rec
+
+empty_of : (body : List ℕ) → length body ≤ 0 → body ≡ []
+empty_of [] few = refl
+empty_of (b ∷ body) few = absurd (omega (arith, few))
+
+-- a record that takes no body, with a place for none
+pub pair_of_none : (rec : Record) (place : BodyPlace) → PutsNone rec → place.len ≡ 0 → IsPair rec place
+pair_of_none rec place plain none = record {
+  bare = plain.none;
+  takes = λ body few. ap body_in (plain.stays body) ∙ plain.none ∙ sym (empty_of body (omega (arith, few, none)));
+}
 
 pub pair_of_bare : (rec : Record) (place : BodyPlace) → place.len ≡ length (body_in rec) → IsPair (bare rec) place
-pair_of_bare (kept.Update file update) place is = refl
-pair_of_bare (kept.Stage file object version bytes) place is = refl
-pair_of_bare (kept.Boot boot) place is = is
-pair_of_bare (kept.Promise file epoch) place is = is
-pair_of_bare (kept.Head file head) place is = is
-pair_of_bare (kept.View file location) place is = is
-pair_of_bare (kept.Meta from number now nodes request) place is = is
+pair_of_bare rec place is = at (puts_or_none rec)
+  where
+    at : Puts rec ⊎ PutsNone rec → IsPair (bare rec) place
+    at (inl puts) = record { bare = puts.get_set []; takes = λ body few. ap body_in (set_set body [] rec) ∙ puts.get_set body }
+    at (inr plain) = subst (λ (r : Record). IsPair r place) (sym (plain.stays [])) (pair_of_none rec place plain (is ∙ ap length plain.none))
 
 pub bare_again : (bytes : List ℕ) (rec : Record) (place : BodyPlace) → IsPair rec place → bare (with_body bytes rec) ≡ rec
-bare_again bytes (kept.Update file update) place is = ap (λ body. kept.Update file (record update { body = body })) (sym is)
-bare_again bytes (kept.Stage file object version body) place is = ap (kept.Stage file object version) (sym is)
-bare_again bytes (kept.Boot boot) place is = refl
-bare_again bytes (kept.Promise file epoch) place is = refl
-bare_again bytes (kept.Head file head) place is = refl
-bare_again bytes (kept.View file location) place is = refl
-bare_again bytes (kept.Meta from number now nodes request) place is = refl
+bare_again bytes rec place is = set_set [] bytes rec ∙ ap (λ (b : List ℕ). with_body b rec) (sym is.bare) ∙ set_get rec
+
+-- a body's bytes don't matter to what is known with it
+pub zeros_of : (bytes : List ℕ) (rec : Record) → without_body (with_body bytes rec) ≡ with_body (replicate (length bytes) 0) rec
+zeros_of bytes rec = set_set (replicate (length (body_in (with_body bytes rec))) 0) bytes rec ∙ at (puts_or_none rec)
+  where
+    at : Puts rec ⊎ PutsNone rec → with_body (replicate (length (body_in (with_body bytes rec))) 0) rec ≡ with_body (replicate (length bytes) 0) rec
+    at (inl puts) = ap (λ (b : List ℕ). with_body (replicate (length b) 0) rec) (puts.get_set bytes)
+    at (inr plain) = plain.stays (replicate (length (body_in (with_body bytes rec))) 0) ∙ sym (plain.stays (replicate (length bytes) 0))
 
 module _ (told : Bool) (read : List ℕ) where
-  no_bytes : (told : Bool) (place : BodyPlace) → place.len ≡ 0 → [] ≡ bytes_at told read place
-  no_bytes true place none = sym (ap (λ n. bytes_at true read (record place { len = n })) none)
-  no_bytes false place none = sym (ap (λ n. replicate n 0) none)
+  few_bytes : (told : Bool) (place : BodyPlace) → length (bytes_at told read place) ≤ place.len
+  few_bytes true place = omega (arith, length-take place.len (drop place.at read))
+  few_bytes false place = omega (arith, length-replicate {A = ℕ} place.len 0)
 
   -- its body is what is in its place
   pub body_there : (rec : Record) (place : BodyPlace) → IsPair rec place → body_in (with_body (bytes_at told read place) rec) ≡ bytes_at told read place
-  body_there (kept.Update file update) place is = refl
-  body_there (kept.Stage file object version bytes) place is = refl
-  body_there (kept.Boot boot) place is = no_bytes told place is
-  body_there (kept.Promise file epoch) place is = no_bytes told place is
-  body_there (kept.Head file head) place is = no_bytes told place is
-  body_there (kept.View file location) place is = no_bytes told place is
-  body_there (kept.Meta from number now nodes request) place is = no_bytes told place is
+  body_there rec place is = is.takes (bytes_at told read place) (few_bytes told place)
 
   pub body_at_place : (records : List Record) (places : List BodyPlace) (i : ℕ) (d : BodyPlace) → ArePairs records places → i < length places
       → body_at (filled (bytes_at told read) records places) i ≡ bytes_at told read (get_or places i d)
@@ -84,13 +71,7 @@ module _ (told : Bool) (read : List ℕ) where
   body_at_place (r ∷ records) (p ∷ places) (suc i) d are inside = body_at_place records places i d are.1 (omega (arith, inside))
 
   known_zeros : (n : ℕ) (rec : Record) → without_body (with_body (replicate n 0) rec) ≡ with_body (replicate n 0) rec
-  known_zeros n (kept.Update file update) = ap (λ m. kept.Update file (record update { body = replicate m 0 })) (length-replicate n 0)
-  known_zeros n (kept.Stage file object version bytes) = ap (λ m. kept.Stage file object version (replicate m 0)) (length-replicate n 0)
-  known_zeros n (kept.Boot boot) = refl
-  known_zeros n (kept.Promise file epoch) = refl
-  known_zeros n (kept.Head file head) = refl
-  known_zeros n (kept.View file location) = refl
-  known_zeros n (kept.Meta from number now nodes request) = refl
+  known_zeros n rec = zeros_of (replicate n 0) rec ∙ ap (λ (m : ℕ). with_body (replicate m 0) rec) (length-replicate n 0)
 
 -- ---- records and their places
 
@@ -109,13 +90,7 @@ pairs-push (r ∷ records) (p ∷ places) rec place are is = (are.0, pairs-push 
 
 -- as long a body in another place is a pair with it too
 pub pair_elsewhere : (rec : Record) (place other : BodyPlace) → other.len ≡ place.len → IsPair rec place → IsPair rec other
-pair_elsewhere (kept.Update file update) place other same is = is
-pair_elsewhere (kept.Stage file object version bytes) place other same is = is
-pair_elsewhere (kept.Boot boot) place other same is = same ∙ is
-pair_elsewhere (kept.Promise file epoch) place other same is = same ∙ is
-pair_elsewhere (kept.Head file head) place other same is = same ∙ is
-pair_elsewhere (kept.View file location) place other same is = same ∙ is
-pair_elsewhere (kept.Meta from number now nodes request) place other same is = same ∙ is
+pair_elsewhere rec place other same is = record { bare = is.bare; takes = λ body few. is.takes body (omega (arith, few, same)) }
 
 pub later_pairs : (by : ℕ) (records : List Record) (places : List BodyPlace) → ArePairs records places → ArePairs records (map (later by) places)
 later_pairs by [] [] are = tt

@@ -13,12 +13,7 @@ use Rattle.object_store.specs.Texts.{texts_of}
 
 first_byte : (rec : Record) → slice_index (record_text rec) 0 ≢ superblock_kind
 first_byte (kept.Boot boot) = λ is. omega (arith, is)
-first_byte (kept.Promise file epoch) = λ is. omega (arith, is)
-first_byte (kept.Update file update) = λ is. omega (arith, is)
-first_byte (kept.Stage file object version bytes) = λ is. omega (arith, is)
-first_byte (kept.Head file head) = λ is. omega (arith, is)
-first_byte (kept.View file location) = λ is. omega (arith, is)
-first_byte (kept.Meta from number now nodes request) = λ is. omega (arith, is)
+first_byte _ = λ is. omega (arith, is)
 
 -- the bytes of a record don't begin with a superblock's kind
 pub no_superblock : (bytes : List ℕ) (rec : Record) → bytes ≡ record_text rec → slice_index bytes 0 ≢ superblock_kind

@@ -1,5 +1,5 @@
 -- records that agree with what was read
-use Rattle.std.proofs.Common.{◌≡◌, ◌≢◌, ◌==◌, ◌<◌, ℕ, Bool, true, false, cond, List, [], ◌∷◌, ◌++◌, length, replicate, get_or, Option, Some, None, refl, ap, sym, subst, ◌∙◌, arith}
+use Rattle.std.proofs.Common.{◌≡◌, ◌≢◌, ◌⊎◌, inl, inr, ◌==◌, ◌<◌, ℕ, Bool, true, false, cond, List, [], ◌∷◌, ◌++◌, length, replicate, get_or, Option, Some, None, refl, ap, sym, subst, ◌∙◌, arith}
 use Rattle.std.specs.Prelude.{slice_index}
 use Rattle.std.specs.List.{All, fold}
 use Rattle.std.specs.Option.{option_map}
@@ -12,11 +12,11 @@ use Rattle.std.proofs.lemmas.List.Sums.{fold-append}
 use Rattle.xt_base.specs.FieldLimits.{AreBytes}
 use Rattle.xt_messages.specs.Limits.{FitsRecord}
 use Rattle.xt_messages.specs.declared.record.Record.{Record}
-use Rattle.xt_messages.specs.declared.record.Record.TheVariants as kept
 use Rattle.xt_protocol.specs.Folds.{body_put, body_after, body_kept, newer}
 use Rattle.replica_records.specs.Known.{known_of, without_body, Sees}
 use Rattle.replica_records.specs.declared.places.BodyKey.{BodyKey}
 use Rattle.replica_records.specs.Places.{body_cmp, body_in, key_put}
+use Rattle.replica_records.proofs.BodyLaws.{Puts, PutsNone, get_keyed, puts_or_none, set_get}
 use Rattle.replica_records.proofs.Known.{fits_known, known_fits, length_known}
 use Rattle.replica_records.proofs.Placing.{key_equal, put_for, put_is}
 use Rattle.object_store.specs.declared.read_body.ReadBody.{ReadBody}
@@ -24,39 +24,19 @@ use Rattle.object_store.specs.Bare.{with_body}
 use Rattle.object_store.specs.FitProps.{all_fit_prop}
 use Rattle.object_store.specs.Readers.{Agrees, IsKeptIn, MayBeRead, all_with_read, kept_as, over, seen_of, with_read}
 use Rattle.object_store.specs.Texts.{AreRecords}
-use Rattle.object_store.proofs.Filled.{same_key}
+use Rattle.object_store.proofs.Filled.{same_key, zeros_of}
 
 -- ---- one record
-
-own_zeros : (rec : Record) → without_body rec ≡ with_body (replicate (length (body_in rec)) 0) rec
-own_zeros (kept.Update file update) = refl
-own_zeros (kept.Stage file object version bytes) = refl
-own_zeros (kept.Boot boot) = refl
-own_zeros (kept.Promise file epoch) = refl
-own_zeros (kept.Head file head) = refl
-own_zeros (kept.View file location) = refl
-own_zeros (kept.Meta from number now nodes request) = refl
-
-zeros_of : (bytes : List ℕ) (rec : Record) → without_body (with_body bytes rec) ≡ with_body (replicate (length bytes) 0) rec
-zeros_of bytes (kept.Update file update) = refl
-zeros_of bytes (kept.Stage file object version body) = refl
-zeros_of bytes (kept.Boot boot) = refl
-zeros_of bytes (kept.Promise file epoch) = refl
-zeros_of bytes (kept.Head file head) = refl
-zeros_of bytes (kept.View file location) = refl
-zeros_of bytes (kept.Meta from number now nodes request) = refl
 
 no_bytes : (i : ℕ) → slice_index [] i < 256
 no_bytes i = omega arith
 
 bytes_within : (bytes : List ℕ) (rec : Record) → AreBytes bytes → AreBytes (body_in (with_body bytes rec))
-bytes_within bytes (kept.Update file update) all = all
-bytes_within bytes (kept.Stage file object version body) all = all
-bytes_within bytes (kept.Boot boot) all = no_bytes
-bytes_within bytes (kept.Promise file epoch) all = no_bytes
-bytes_within bytes (kept.Head file head) all = no_bytes
-bytes_within bytes (kept.View file location) all = no_bytes
-bytes_within bytes (kept.Meta from number now nodes request) all = no_bytes
+bytes_within bytes rec all = at (puts_or_none rec)
+  where
+    at : Puts rec ⊎ PutsNone rec → AreBytes (body_in (with_body bytes rec))
+    at (inl puts) = subst AreBytes (sym (puts.get_set bytes)) all
+    at (inr plain) = subst AreBytes (sym (ap body_in (plain.stays bytes) ∙ plain.none)) no_bytes
 
 -- what a record puts for a key, with its body or another one
 put_one : (key : BodyKey) (rec : Record) → Option (List ℕ)
@@ -98,24 +78,6 @@ puts_not own other bytes rec differ is =
     ∙ ap (λ (k : Option BodyKey). put_for k other (body_in (with_body bytes rec))) (same_key bytes rec ∙ is)
     ∙ other_key own other (body_in (with_body bytes rec)) differ
 
-body_with : (bytes : List ℕ) (rec : Record) (key : BodyKey) → key_put rec ≡ Some key → body_in (with_body bytes rec) ≡ bytes
-body_with bytes (kept.Update file update) key is = refl
-body_with bytes (kept.Stage file object version body) key is = refl
-body_with bytes (kept.Boot boot) key is = absurd cc
-body_with bytes (kept.Promise file epoch) key is = absurd cc
-body_with bytes (kept.Head file head) key is = absurd cc
-body_with bytes (kept.View file location) key is = absurd cc
-body_with bytes (kept.Meta from number now nodes request) key is = absurd cc
-
-own_body : (rec : Record) → with_body (body_in rec) rec ≡ rec
-own_body (kept.Update file update) = refl
-own_body (kept.Stage file object version bytes) = refl
-own_body (kept.Boot boot) = refl
-own_body (kept.Promise file epoch) = refl
-own_body (kept.Head file head) = refl
-own_body (kept.View file location) = refl
-own_body (kept.Meta from number now nodes request) = refl
-
 -- ---- one record with a body that was read
 
 module _ (read : ReadBody) where
@@ -131,7 +93,7 @@ module _ (read : ReadBody) where
         at : (same : Bool) → (length old == length read.bytes) ≡ same → without_body (cond same (with_body read.bytes rec) rec) ≡ without_body rec
         at true same =
             let size : length read.bytes ≡ length (body_in rec) = sym (eqb-true (length old) (length read.bytes) same) ∙ ap length (is old refl) in
-            zeros_of read.bytes rec ∙ ap (λ (n : ℕ). with_body (replicate n 0) rec) size ∙ sym (own_zeros rec)
+            zeros_of read.bytes rec ∙ ap (λ (n : ℕ). with_body (replicate n 0) rec) size
         at false same = refl
 
     over_fits : (put : Option (List ℕ)) → ((old : List ℕ) → put ≡ Some old → old ≡ body_in rec) → AreBytes read.bytes → FitsRecord rec → FitsRecord (over read.bytes rec put)
@@ -142,7 +104,7 @@ module _ (read : ReadBody) where
         at true same =
             let size : length read.bytes ≡ length (body_in rec) = sym (eqb-true (length old) (length read.bytes) same) ∙ ap length (is old refl) in
             let known : without_body (with_body read.bytes rec) ≡ without_body rec =
-            zeros_of read.bytes rec ∙ ap (λ (n : ℕ). with_body (replicate n 0) rec) size ∙ sym (own_zeros rec) in
+            zeros_of read.bytes rec ∙ ap (λ (n : ℕ). with_body (replicate n 0) rec) size in
             known_fits false (with_body read.bytes rec) (bytes_within read.bytes rec all) (subst FitsRecord (sym known) (fits_known false rec fits))
         at false same = fits
 
@@ -152,7 +114,7 @@ module _ (read : ReadBody) where
     over_other key (Some old) differ is = at (length old == length read.bytes)
       where
         none : body_put key.file key.object key.version rec ≡ None
-        none = ap (body_put key.file key.object key.version) (sym (own_body rec)) ∙ puts_not read.key key (body_in rec) rec differ (is old refl)
+        none = ap (body_put key.file key.object key.version) (sym (set_get rec)) ∙ puts_not read.key key (body_in rec) rec differ (is old refl)
 
         at : (same : Bool) → body_put key.file key.object key.version (cond same (with_body read.bytes rec) rec) ≡ body_put key.file key.object key.version rec
         at true = puts_not read.key key read.bytes rec differ (is old refl) ∙ sym none
@@ -170,7 +132,7 @@ module _ (read : ReadBody) where
         ap (λ (k : Option BodyKey). put_for k read.key (body_in rec)) (sym key) ∙ sym (put_is rec read.key) ∙ is in
         put_is (with_body read.bytes rec) read.key
         ∙ ap (λ (k : Option BodyKey). put_for k read.key (body_in (with_body read.bytes rec))) (same_key read.bytes rec ∙ key)
-        ∙ ap (λ (b : List ℕ). put_for (Some read.key) read.key b) (body_with read.bytes rec read.key key)
+        ∙ ap (λ (b : List ℕ). put_for (Some read.key) read.key b) (get_keyed read.bytes rec read.key key)
         ∙ tied_again (is_eq (body_cmp read.key read.key)) (body_in rec) old first
 
     over_own : (put : Option (List ℕ)) → body_put read.key.file read.key.object read.key.version rec ≡ put

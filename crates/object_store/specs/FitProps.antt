@@ -4,7 +4,7 @@ use Rattle.std.proofs.Common.{inl, inr, arith, ap}
 use Rattle.std.proofs.Props.{props}
 use Rattle.std.specs.List.{All}
 use Rattle.xt_base.specs.declared.ids.NodeId.{NodeId}
-use Rattle.xt_messages.specs.Limits.{FitsMembers, FitsMetaReq, FitsRegistryReq, FitsLogged, FitsRecord, IsObjectOrNone}
+use Rattle.xt_messages.specs.Limits.{FitsMembers, FitsMetaReq, FitsRegistryReq, FitsLogged, FitsRecord, IsObjectOrNone, IsOldObjectOrNone}
 use Rattle.xt_messages.specs.declared.record.Record.{Record}
 use Rattle.xt_messages.specs.declared.record.Record.TheVariants as kept
 use Rattle.xt_messages.specs.declared.record.Logged.{Logged}
@@ -26,17 +26,15 @@ object_prop object (inl a) (inr b) = absurd (omega arith)
 object_prop object (inr a) (inl b) = absurd (omega arith)
 object_prop object (inr a) (inr b) = ap inr (same_prop _ _ a b)
 
+old_object_prop : (object : ℕ) → IsProp (IsOldObjectOrNone object)
+old_object_prop object (inl a) (inl b) = ap inl (less_prop _ _ a b)
+old_object_prop object (inl a) (inr b) = absurd (omega arith)
+old_object_prop object (inr a) (inl b) = absurd (omega arith)
+old_object_prop object (inr a) (inr b) = ap inr (same_prop _ _ a b)
+
 meta_prop : (request : MetaReq) → IsProp (FitsMetaReq request)
 meta_prop (ask.Mkdir path mode) = hlevel props
-meta_prop (ask.Create path mode kind n stripe) = hlevel props
-meta_prop (ask.Rename from to) = hlevel props
-meta_prop (ask.Unlink path) = hlevel props
-meta_prop (ask.Rmdir path) = hlevel props
-meta_prop (ask.List path after) = hlevel props
-meta_prop (ask.Stat path) = hlevel props
-meta_prop (ask.Chmod path mode) = hlevel props
-meta_prop (ask.Grant path want) = hlevel props
-meta_prop (ask.Report capability mark) = hlevel props
+meta_prop _ = hlevel props
 
 registry_prop : (request : RegistryReq) → IsProp (FitsRegistryReq request)
 registry_prop (wish.Set node kind address expected) = hlevel props
@@ -53,13 +51,10 @@ nodes_prop None = hlevel props
 nodes_prop (Some nodes) = hlevel props
 
 fits_prop : (rec : Record) → IsProp (FitsRecord rec)
-fits_prop (kept.Boot boot) = hlevel props
-fits_prop (kept.Promise file epoch) = hlevel props
 fits_prop (kept.Update file update) = hlevel (props, object_prop)
-fits_prop (kept.Stage file object version bytes) = hlevel props
-fits_prop (kept.Head file head) = hlevel props
-fits_prop (kept.View file location) = hlevel props
+fits_prop (kept.OldUpdate file update) = hlevel (props, object_prop, old_object_prop)
 fits_prop (kept.Meta from number now nodes request) = hlevel (props, nodes_prop nodes, logged_prop request)
+fits_prop _ = hlevel props
 
 pub all_fit_prop : (records : List Record) → IsProp (All FitsRecord records)
 all_fit_prop records = hlevel (props, fits_prop)

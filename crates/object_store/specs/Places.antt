@@ -1,9 +1,8 @@
 -- where the bodies of records are on a disk
-use Rattle.std.specs.Prelude.{ℕ, ◌≡◌, ◌+◌, ◌-◌, Bool, true, false, List, [], ◌∷◌, length, take, drop, replicate}
+use Rattle.std.specs.Prelude.{ℕ, ◌≡◌, ◌+◌, ◌-◌, ◌≤◌, Bool, true, false, List, [], ◌∷◌, length, take, drop, replicate}
 use Rattle.std.proofs.Props.{props}
 use Rattle.xt_base.specs.Faults.{counted}
 use Rattle.xt_messages.specs.declared.record.Record.{Record}
-use Rattle.xt_messages.specs.declared.record.Record.TheVariants as kept
 use Rattle.xt_journal.specs.Placed.{Placed}
 use Rattle.replica_records.specs.declared.places.Places.{Places}
 use Rattle.replica_records.specs.Places.{body_in, ArePlacesIn, are_places_prop}
@@ -36,15 +35,10 @@ filled bytes [] places = []
 filled bytes (rec ∷ records) [] = []
 filled bytes (rec ∷ records) (place ∷ places) = with_body (bytes place) rec ∷ filled bytes records places
 
--- a record without its body, and that body's place; without any bytes where it puts none
-abbrev pub IsPair : Record → BodyPlace → Type 0
-IsPair (kept.Update file update) place = update.body ≡ []
-IsPair (kept.Stage file object version bytes) place = bytes ≡ []
-IsPair (kept.Boot boot) place = place.len ≡ 0
-IsPair (kept.Promise file epoch) place = place.len ≡ 0
-IsPair (kept.Head file head) place = place.len ≡ 0
-IsPair (kept.View file location) place = place.len ≡ 0
-IsPair (kept.Meta from number now nodes request) place = place.len ≡ 0
+-- a record without its body, and that body's place, which is as long as a body that it puts; without any bytes where it puts none
+pub record IsPair (rec : Record) (place : BodyPlace) : Type 0 where
+  pub bare : body_in rec ≡ []
+  pub takes : (body : List ℕ) → length body ≤ place.len → body_in (with_body body rec) ≡ body
 
 abbrev pub ArePairs : List Record → List BodyPlace → Type 0
 ArePairs [] [] = Unit {0}
@@ -53,13 +47,7 @@ ArePairs (rec ∷ records) [] = ⊥
 ArePairs (rec ∷ records) (place ∷ places) = IsPair rec place × ArePairs records places
 
 is_pair_prop : (rec : Record) (place : BodyPlace) → IsProp (IsPair rec place)
-is_pair_prop (kept.Update file update) place = hlevel props
-is_pair_prop (kept.Stage file object version bytes) place = hlevel props
-is_pair_prop (kept.Boot boot) place = hlevel props
-is_pair_prop (kept.Promise file epoch) place = hlevel props
-is_pair_prop (kept.Head file head) place = hlevel props
-is_pair_prop (kept.View file location) place = hlevel props
-is_pair_prop (kept.Meta from number now nodes request) place = hlevel props
+is_pair_prop rec place = hlevel props
 
 pub are_pairs_prop : (records : List Record) (places : List BodyPlace) → IsProp (ArePairs records places)
 are_pairs_prop [] [] = hlevel props

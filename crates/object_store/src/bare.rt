@@ -13,7 +13,23 @@ pub fn strip(alloc: Global, rec: &mut Record)
     match rec {
         Record::Update { update, .. } => update.body = Octets::new(alloc),
         Record::Stage { bytes, .. } => *bytes = Octets::new(alloc),
+        Record::OldUpdate { update, .. } => update.body = Octets::new(alloc),
+        Record::OldStage { bytes, .. } => *bytes = Octets::new(alloc),
         _ => {}
+    }
+}
+
+/// A copy of an update with this body in place of its own.
+fn update_with(update: &Update, body: Octets) -> Update
+    ensures { result ≡ record update.now { body = body } }
+{
+    Update {
+        stamp: update.stamp,
+        id: update.id,
+        mark: update.mark,
+        drop_from: update.drop_from,
+        object: update.object,
+        body,
     }
 }
 
@@ -24,14 +40,7 @@ pub fn copy_with(alloc: Global, rec: &Record, body: Octets) -> Result<Record, Ou
     match rec {
         Record::Update { file, update } => Ok(Record::Update {
             file: *file,
-            update: Update {
-                stamp: update.stamp,
-                id: update.id,
-                mark: update.mark,
-                drop_from: update.drop_from,
-                object: update.object,
-                body,
-            },
+            update: update_with(update, body),
         }),
         Record::Stage {
             file,
@@ -39,6 +48,21 @@ pub fn copy_with(alloc: Global, rec: &Record, body: Octets) -> Result<Record, Ou
             version,
             ..
         } => Ok(Record::Stage {
+            file: *file,
+            object: *object,
+            version: *version,
+            bytes: body,
+        }),
+        Record::OldUpdate { file, update } => Ok(Record::OldUpdate {
+            file: *file,
+            update: update_with(update, body),
+        }),
+        Record::OldStage {
+            file,
+            object,
+            version,
+            ..
+        } => Ok(Record::OldStage {
             file: *file,
             object: *object,
             version: *version,

@@ -63,7 +63,7 @@ impl<D: Disk> Store<D> {
         let mut bytes = buffer(alloc, place.len)?;
         match self.journal.disk().look(place.at, bytes.as_mut_slice()) {
             Ok(()) => {
-                let bytes = Octets::from(bytes);
+                let bytes = Octets::from_vec(bytes)?;
                 are_bytes(bytes.as_slice());
                 Ok(bytes)
             }

@@ -4,3 +4,4 @@ pub mod HeldSets
 pub mod HeldVersions
 pub mod Puts
 pub mod BodyOrder
+mod WholeBodies

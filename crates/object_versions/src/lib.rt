@@ -17,7 +17,7 @@ mod sessions;
 mod versions;
 
 pub use bodies::{Bodies, seen};
-pub use bytes::{behind, cut_or_filled, overlay, readable};
+pub use bytes::{overlay, readable, shown};
 pub use errors::{BodyErr, StepErr};
 pub use heads::{sessions_after, take_update, update_head, versions_after};
 pub use held::{first_missing, has_version, held_from, held_rise, hold, holds, is_held, let_go};

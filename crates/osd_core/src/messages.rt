@@ -32,11 +32,7 @@ pub fn file_concerned(payload: &Payload) -> Option<FileId>
         | Payload::Missing { file, .. }
         | Payload::Reply { file, .. } => Some(*file),
         Payload::Ask { capability, .. } => Some(capability.file),
-        Payload::Meta { .. }
-        | Payload::MetaReply { .. }
-        | Payload::Registry { .. }
-        | Payload::RegistryReply { .. }
-        | Payload::Stop { .. } => None,
+        _ => None,
     }
 }
 

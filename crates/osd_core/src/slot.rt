@@ -49,6 +49,7 @@ pub fn new_row(alloc: Global, file: FileId) -> FileRow
         head: new_head(alloc),
         held: HeldSet::new(alloc),
         location: None,
+        closed: None,
     }
 }
 

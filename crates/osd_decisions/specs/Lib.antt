@@ -1,3 +1,4 @@
 pub mod Committed
 pub mod Reports
 pub mod Shown
+pub mod Near

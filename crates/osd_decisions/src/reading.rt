@@ -10,7 +10,7 @@ ghost use Rattle.object_versions.specs.KeptBodies.{fault_of, ReadsOnly};
 ghost use Rattle.object_versions.specs.Rising.{HeadRises};
 ghost use Rattle.osd_decisions.specs.Committed.{CommittedUnder};
 
-use object_versions::{Bodies, StepErr, behind, cut_or_filled, readable, seen, version_of};
+use object_versions::{Bodies, StepErr, readable, seen, shown, version_of};
 use std::alloc::Global;
 use xt_base::{FileId, Octets, Stamp};
 use xt_messages::{FileHead, Op, Reply};
@@ -55,7 +55,7 @@ pub fn bytes_shown<B: Bodies>(
     let version = version_of(head.versions.as_slice(), *object);
     let body = present_body(bodies, alloc, file, *object, version)?;
     let size = readable(head.mark.size, stripe, *object, *at, *len);
-    Ok(cut_or_filled(alloc, behind(body.as_slice(), *at as usize), size as usize)?)
+    Ok(shown(alloc, body, *at as usize, size as usize)?)
 }
 
 /// Read served: what the committed head of a primary shows, its count and its mark; none where the primary isn't active. An issued

@@ -5,6 +5,7 @@ ghost use Rattle.xt_protocol.specs.SeenBodies.{body_by};
 ghost use Rattle.xt_protocol.specs.Writes as rows;
 ghost use Rattle.object_versions.specs.KeptBodies.{fault_of, ReadsOnly};
 ghost use Rattle.object_versions.specs.Rising.{HeadRises};
+ghost use Rattle.osd_decisions.specs.Near.{IsNear};
 
 use crate::reading::present_body;
 use object_versions::{Bodies, StepErr, overlay, version_of};
@@ -35,7 +36,7 @@ fn written<B: Bodies>(
 {
     let version = version_of(head.versions.as_slice(), object);
     let old = present_body(bodies, alloc, file, object, version)?;
-    let body = overlay(alloc, old.as_slice(), at as usize, bytes.as_slice())?;
+    let body = overlay(alloc, &old, at as usize, bytes)?;
     let end = object * u64::from(stripe) + u64::from(at) + bytes.as_slice().len() as u64;
     Ok(Update {
         stamp,
@@ -122,6 +123,7 @@ pub fn update_of<B: Bodies>(
 ) -> Result<Option<Update>, StepErr>
     requires some { 1024 ≤ stripe }
     requires fits { FitsOp op.now }
+    requires near { IsNear op.now }
     requires rising { HeadRises head.now }
     ensures value { IfOk result (λ update. (records : List Record) → B.agrees bodies.new records →
         update ≡ rows.update_of stripe (body_by records file.now) head.now stamp id epoch op.now) }

@@ -1,6 +1,6 @@
 -- an ask on a striped file: what the replica takes is within its limits, and the step is the row's
 use Rattle.std.proofs.Common.{◌≡◌, ◌∙◌, ◌<◌, ◌≤◌, ◌^◌, ◌-◌, inl, inr, ℕ, Bool, true, false, refl, ap, sym, subst, List, length, arith, nat_lt, nat_le, cond, max}
-use Rattle.std.specs.Prelude.{Option, Some, None, IfSome, ◌+◌, ◌*◌, ◌/◌, ◌==◌, ◌&&◌, if◌then◌else◌}
+use Rattle.std.specs.Prelude.{Option, Some, None, IfSome, ◌+◌, ◌*◌, ◌/◌, ◌&&◌, if◌then◌else◌}
 use Rattle.std.proofs.Math.Nat.{mul-le-mul, div-le_of_le-mul}
 use Rattle.std.proofs.lemmas.Bool.{and_parts}
 use Rattle.std.proofs.lemmas.Bool.Decides.{nat_tests}
@@ -14,7 +14,6 @@ use Rattle.xt_messages.specs.Limits.{FitsHead, FitsOpId, FitsOp, FitsCapability,
 use Rattle.xt_messages.specs.declared.file.Location.{Location}
 use Rattle.xt_messages.specs.declared.file.Capability.{Capability}
 use Rattle.xt_messages.specs.declared.file.FileHead.{FileHead}
-use Rattle.xt_messages.specs.declared.file.Session.{Session}
 use Rattle.xt_messages.specs.declared.file.Update.{Update}
 use Rattle.xt_messages.specs.declared.file.Op.{Op}
 use Rattle.xt_messages.specs.declared.file.Op.TheVariants as op
@@ -26,11 +25,12 @@ use Rattle.xt_messages.specs.declared.record.FileRow.{FileRow}
 use Rattle.xt_protocol.specs.declared.states.Acted.{Acted}
 use Rattle.xt_protocol.specs.AskRows.{capability_refused, leaves_object}
 use Rattle.xt_protocol.specs.FileStates.{Site}
-use Rattle.xt_protocol.specs.Heads.{plain_stamp, first_epoch, version_of, session_of, head_after}
+use Rattle.xt_protocol.specs.Heads.{plain_stamp, first_epoch, version_of, head_after}
 use Rattle.xt_protocol.specs.Objects.{present_body}
 use Rattle.xt_protocol.specs.StripedRows.{capability_range_list, range_and_list, striped_refusal, member_acts, to_client, handle_striped}
 use Rattle.xt_protocol.specs.PlainRows.{only, plain_step}
-use Rattle.xt_protocol.specs.Writes.{WriteStanding, repeated, older, turned_away, fresh, is_old_epoch, too_far, reach, judged, by_session, standing, cuts_body, update_of}
+use Rattle.xt_protocol.specs.Writes.{too_far, cuts_body, update_of}
+use Rattle.osd_decisions.proofs.Near.{near_object, standing_near}
 use Rattle.replica_state.specs.Kept.{IsNotable}
 use Rattle.replica_state.proofs.HeadFits.{FitsInHead, taken_fits}
 use Rattle.osd_invariants.proofs.StripedAsks.{KeepsUpdate, striped_outcome}
@@ -53,39 +53,7 @@ stays_inside site stored capability asked none = by_capability (capability_refus
     by_capability (Some why) none = absurd cc
     by_capability None none = at (leaves_object capability.location.stripe asked) refl none
 
--- ---- a write that stands isn't too far
-
-module _ (objects stripe : ℕ) (head : FileHead) (epoch : ℕ) (asked : Op) where
-  abbrev IsNear : WriteStanding → Type 0
-  IsNear how = how ≡ fresh → too_far objects stripe asked ≡ None
-
-  reached : (o : Option Session) (far : Option ℕ) → too_far objects stripe asked ≡ far → IsNear (reach head o far)
-  reached o (Some object) is so = absurd cc
-  reached o None is so = is
-
-  judged_near : (o : Option Session) → IsNear (judged objects stripe head o epoch asked)
-  judged_near o =
-      either IsNear (is_old_epoch head.mark epoch asked) (turned_away (reply.OldEpoch head.mark.epoch)) (reach head o (too_far objects stripe asked)) (λ so. absurd cc)
-      (reached o (too_far objects stripe asked) refl)
-
-  by_session_near : (o : Option Session) (number : ℕ) → IsNear (by_session objects stripe head o number epoch asked)
-  by_session_near None number = judged_near None
-  by_session_near (Some s) number =
-      either IsNear (number == s.number) (repeated s.count) (cond (nat_lt number s.number) older (judged objects stripe head (Some s) epoch asked)) (λ so. absurd cc)
-      (either IsNear (nat_lt number s.number) older (judged objects stripe head (Some s) epoch asked) (λ so. absurd cc) (judged_near (Some s)))
-
-  standing_near : (id : OpId) → IsNear (standing objects stripe head id epoch asked)
-  unfolding standing
-  standing_near id = by_session_near (session_of head.sessions id.client.0) id.number
-
 -- ---- the update that it makes
-
-near_object : (objects object : ℕ) → (if nat_lt object objects then None else Some object) ≡ None → object < objects
-near_object objects object near = at (nat_lt object objects) refl near
-  where
-    at : (b : Bool) → nat_lt object objects ≡ b → (if b then None else Some object) ≡ None → object < objects
-    at true is none = grind (arith, nat_tests)
-    at false is none = absurd cc
 
 near_size : (most stripe size : ℕ) → (if nat_lt most size then Some (size / stripe) else None) ≡ None → size ≤ most
 near_size most stripe size near = at (nat_lt most size) refl near
@@ -95,15 +63,15 @@ near_size most stripe size near = at (nat_lt most size) refl near
     at false is none = grind (arith, nat_tests)
 
 -- the size after a write is one of 64 bits
-size_fits : (size objects object stripe end : ℕ) → size < 2 ^ 64 → object < objects → objects ≤ 36864 → stripe ≤ 131072 → end ≤ 131072 → max size (object * stripe + end) < 2 ^ 64
+size_fits : (size objects object stripe end : ℕ) → size < 2 ^ 64 → object < objects → objects ≤ 147456 → stripe ≤ 131072 → end ≤ 131072 → max size (object * stripe + end) < 2 ^ 64
 size_fits size objects object stripe end old below few short inside =
-    let low : object ≤ 36864 = omega arith in
-    let product : object * stripe ≤ 36864 * 131072 = mul-le-mul low short in
+    let low : object ≤ 147456 = omega arith in
+    let product : object * stripe ≤ 147456 * 131072 = mul-le-mul low short in
     omega (arith, product)
 
 -- what the update is made from
 record Makes (objects stripe : ℕ) (head : FileHead) (stamp : Stamp) (id : OpId) (epoch : ℕ) (asked : Op) : Type 0 where
-  few : objects ≤ 36864
+  few : objects ≤ 147456
   short : stripe ≤ 131072
   whole : FitsHead head
   place : FitsStamp stamp
@@ -131,7 +99,7 @@ taken_at objects stripe body head stamp id epoch (op.Write object at bytes) is =
         place = is.place;
         operation = is.who;
         after = record { truncation = is.whole.after.truncation; bytes = summed head.mark.size (object * stripe) at (length bytes) size };
-        gets = inl (let few : objects ≤ 36864 = is.few in omega (arith, below, few));
+        gets = inl (let few : objects ≤ 147456 = is.few in omega (arith, below, few));
       },
       refl,
     )
@@ -151,7 +119,7 @@ taken_at objects stripe body head stamp id epoch (op.Truncate size) is =
       refl,
     )
   where
-    below : (size : ℕ) → size ≤ objects * stripe → objects ≤ 36864 → size / stripe < 2 ^ 32 - 1
+    below : (size : ℕ) → size ≤ objects * stripe → objects ≤ 147456 → size / stripe < 2 ^ 64 - 1
     below size most few =
         let least : size / stripe ≤ objects = div-le_of_le-mul stripe (swapped size objects stripe most) in
         omega (arith, least, few)
@@ -203,7 +171,7 @@ notable site own row id capability asked same whole who seal limits =
         taken_fits row.head update whole taken.0
         (ap (λ (s : Stamp). is_at_most s.epoch row.head.promised) taken.1 ∙ first_at_most row.head.promised) is.fits
       where
-        few_objects : (n : ℕ) → n ≤ 9 → OBJECTS * n ≤ 36864
+        few_objects : (n : ℕ) → n ≤ 9 → OBJECTS * n ≤ 147456
         few_objects n few = omega arith
 
         left : (n : ℕ) → nat_lt n COUNTS ≡ true → IsCount n

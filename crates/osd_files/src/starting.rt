@@ -17,7 +17,7 @@ pub fn file_from(alloc: Global, awake: &Awake, row: FileRow) -> Parts
     requires { RowRises row }
     ensures { shown result ≡ record { awake = awake.now; state = file_from awake.now row } }
 {
-    let replica = Replica::new(alloc, row.file, row.head, row.held);
+    let replica = Replica::new(alloc, row.file, row.head, row.held, row.closed);
     let lead = Lead::new(alloc, awake.node(), replica.file(), row.location);
     Parts {
         alloc,

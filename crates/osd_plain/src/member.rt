@@ -6,6 +6,7 @@ ghost use Rattle.xt_protocol.specs.SeenBodies.{body_by};
 ghost use Rattle.xt_protocol.specs.AskRows.{leaves_object};
 ghost use Rattle.object_versions.specs.KeptBodies.{fault_of, ReadsOnly};
 ghost use Rattle.object_versions.specs.Rising.{HeadRises};
+ghost use Rattle.osd_decisions.specs.Near.{IsNear};
 ghost use Rattle.xt_protocol.specs.PlainRows.{plain_step};
 ghost use Rattle.xt_protocol.specs.PlainRows as rows;
 
@@ -145,6 +146,7 @@ impl<'a> Member<'a> {
     ) -> Result<PlainActed, StepErr>
         requires some { 1024 ≤ stripe }
         requires operation { FitsOp op.now }
+        requires near { IsNear op.now }
         ensures row { IfOk result (λ acted. (records : List Record) → B.agrees bodies.new records →
             acted ≡ rows.write_kept self.now
             (rows.next_update stripe (body_by records self.now.file) self.now.head id epoch

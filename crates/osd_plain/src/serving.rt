@@ -6,12 +6,11 @@ ghost use Rattle.xt_protocol.specs.Heads.{head_after};
 ghost use Rattle.xt_protocol.specs.ReplicaRows.{head_fits};
 ghost use Rattle.object_versions.specs.KeptBodies.{fault_of, ReadsOnly};
 ghost use Rattle.object_versions.specs.Rising.{HeadRises};
+ghost use Rattle.osd_decisions.specs.Near.{IsNear};
 ghost use Rattle.xt_protocol.specs.PlainRows as rows;
 
 use crate::PlainActed;
-use object_versions::{
-    Bodies, StepErr, behind, cut_or_filled, sessions_after, version_of, versions_after,
-};
+use object_versions::{Bodies, StepErr, sessions_after, shown, version_of, versions_after};
 use osd_decisions::{present_body, update_of};
 use std::alloc::Global;
 use xt_base::{CLIENTS, COUNTS, Epoch, FileId, Members, NodeId, OBJECTS, OpId, Stamp};
@@ -91,7 +90,7 @@ pub fn serve_read<B: Bodies>(
 {
     let version = version_of(head.versions.as_slice(), object);
     let body = present_body(bodies, alloc, file, object, version)?;
-    let bytes = cut_or_filled(alloc, behind(body.as_slice(), at as usize), len as usize)?;
+    let bytes = shown(alloc, body, at as usize, len as usize)?;
     Ok(Reply::Ok {
         count: head.stamp.count,
         mark: head.mark,
@@ -112,6 +111,7 @@ pub fn next_update<B: Bodies>(
 ) -> Result<Option<Update>, StepErr>
     requires some { 1024 ≤ stripe }
     requires fits { FitsOp op.now }
+    requires near { IsNear op.now }
     requires rising { HeadRises head.now }
     ensures value { IfOk result (λ update. (records : List Record) → B.agrees bodies.new records →
         update ≡ rows.next_update stripe (body_by records file.now) head.now id epoch op.now) }

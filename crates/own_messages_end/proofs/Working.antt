@@ -23,7 +23,7 @@ use Rattle.xt_messages.specs.declared.record.KeepBody.{KeepBody}
 use Rattle.xt_messages.specs.declared.record.Record.{Record}
 use Rattle.xt_messages.specs.declared.record.Record.TheVariants as kept
 use Rattle.xt_messages.specs.Limits.{FitsEvent, FitsHead, FitsLocation, FitsMessage, FitsPayload, is_at_most}
-use Rattle.xt_protocol.specs.Folds.{fold_of, folded_after, nothing_kept, rows_after, row_after, row_in, file_of}
+use Rattle.xt_protocol.specs.Folds.{fold_of, folded_after, nothing_kept, file_of}
 use Rattle.xt_protocol.specs.Forgetting.{keep_of, file_without, osd_without}
 use Rattle.xt_protocol.specs.LeaseRows.{Awake, Silent, is_silent}
 use Rattle.xt_protocol.specs.Stamps.{is_earlier}
@@ -45,7 +45,7 @@ use Rattle.world_runs.specs.View.{awake_as}
 use Rattle.world_runs.specs.Worlds.{Rises, files_of, row_files}
 use Rattle.world_runs.proofs.Lists.{has_in, has_filter, has_map}
 use Rattle.world_runs.proofs.OsdIds.{new_is}
-use Rattle.world_runs.proofs.Rising.{with_file_rises, with_row_rises}
+use Rattle.world_runs.proofs.Rising.{with_file_rises, rows_after_rise}
 use Rattle.world_runs.proofs.Woken.{mapped_files}
 use Rattle.world_limits.specs.Fits.{FitsKept}
 use Rattle.world_limits.specs.States.{RowIs, FileIs, KeptIs, PeerIs, PeerStateIs, ProgressIs, TenureIs, outside_by}
@@ -340,11 +340,7 @@ may_outside w h (event.Call call) outside = tt
 
 rows_rise : (records : List Record) (folded : Folded) → Rises (row_files folded.files) → Rises (row_files (fold folded_after folded records).files)
 rows_rise [] folded rises = rises
-rows_rise (r ∷ rs) folded rises = rows_rise rs (folded_after folded r) (at (file_of r))
-  where
-    at : (o : Option FileId) → Rises (row_files (rows_after folded.files r o))
-    at None = rises
-    at (Some file) = with_row_rises folded.files (row_after (row_in folded.files file) r) rises
+rows_rise (r ∷ rs) folded rises = rows_rise rs (folded_after folded r) (rows_after_rise folded.files r (file_of r) rises)
 
 of_files : (awake : Awake) (rows : List FileRow) → files_of (map (file_from awake) rows) ≡ row_files rows
 of_files awake [] = refl

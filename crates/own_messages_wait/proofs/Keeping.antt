@@ -333,12 +333,7 @@ module _ (w : World) (was : List Msg) (node : Node) (r : Running) (found : node_
   same_rows : (rec : Option Record) → IsMetaIfAny rec → (row : FileRow) → Has row (fold_of (one_more node.kept rec)).files → Has row (fold_of node.kept).files
   same_rows None is row h = h
   same_rows (Some (kept.Meta from number now nodes what)) is row h = subst (λ (rows : List FileRow). Has row rows) (ap (λ (f : Folded). f.files) (fold_of-push node.kept (kept.Meta from number now nodes what))) h
-  same_rows (Some (kept.Boot boot)) is row h = absurd is
-  same_rows (Some (kept.Promise file epoch)) is row h = absurd is
-  same_rows (Some (kept.Update file update)) is row h = absurd is
-  same_rows (Some (kept.Stage file object version bytes)) is row h = absurd is
-  same_rows (Some (kept.Head file head)) is row h = absurd is
-  same_rows (Some (kept.View file location)) is row h = absurd is
+  same_rows (Some _) is row h = absurd is
 
   other_leaves : (next : Core) (turned : Turned) → ((t : OsdState) → next ≡ osd t → ⊥) → CoreStands node.id next → IsMetaIfAny turned.rec → ((m : Msg) → Has m turned.outs → (m.from ≡ node.id) × ContentSmall m.payload)
       → Leaves next turned

@@ -19,7 +19,9 @@ use Rattle.xt_protocol.specs.LeaseRows.{Awake}
 use Rattle.xt_protocol.specs.Stamps.{is_version, has_version, with_held}
 use Rattle.xt_protocol.proofs.Stamps.{has_version-with_held}
 use Rattle.lease_safety.specs.State.{Has}
+use Rattle.lease_runs.specs.ActsView.{RecordIs}
 use Rattle.lease_runs.specs.LeaseView.{is_ask}
+use Rattle.lease_runs.proofs.ActSteps.{step_rec}
 use Rattle.xt_protocol.specs.ReplicaRows.{kept_after}
 use Rattle.xt_protocol.specs.FileStates.{FileState, Site, FileStep, file_from, members_of}
 use Rattle.xt_protocol.specs.FileSteps.{step_of_file, wake_of_file}
@@ -56,19 +58,19 @@ or_right : (a b : Bool) → b ≡ true → (a || b) ≡ true
 or_right true b is = refl
 or_right false b is = is
 
-pub held_grows : (row : FileRow) (rec : Option Record) (v : ObjectVersion) → has_version row.held v ≡ true → has_version (kept_after row rec).held v ≡ true
-held_grows row None v is = is
-held_grows row (Some (kept.Promise file epoch)) v is = is
-held_grows row (Some (kept.Update file update)) v is = at (update.object == NO_OBJECT)
+pub held_grows : (row : FileRow) (content : Payload) (rec : Option Record) (v : ObjectVersion) → RecordIs row.file content rec → has_version row.held v ≡ true → has_version (kept_after row rec).held v ≡ true
+held_grows row content None v of is = is
+held_grows row content (Some (kept.Update file update)) v of is = at (update.object == NO_OBJECT)
   where
     at : (b : Bool) → has_version (cond b row.held (with_held row.held (body_of update.object update.stamp))) v ≡ true
     at true = is
     at false = has_version-with_held row.held (body_of update.object update.stamp) v ∙ or_right (is_version v (body_of update.object update.stamp)) (has_version row.held v) is
-held_grows row (Some (kept.Stage file object version bytes)) v is = has_version-with_held row.held (body_of object version) v ∙ or_right (is_version v (body_of object version)) (has_version row.held v) is
-held_grows row (Some (kept.Head file head)) v is = is
-held_grows row (Some (kept.View file location)) v is = is
-held_grows row (Some (kept.Boot boot)) v is = is
-held_grows row (Some (kept.Meta from number now nodes request)) v is = is
+held_grows row content (Some (kept.Stage file object version bytes)) v of is =
+    has_version-with_held row.held (body_of object version) v ∙ or_right (is_version v (body_of object version)) (has_version row.held v) is
+held_grows row content (Some (kept.OldUpdate file update)) v of is = absurd of
+held_grows row content (Some (kept.OldStage file object version bytes)) v of is = absurd of
+held_grows row content (Some (kept.Forget file)) v of is = absurd of
+held_grows row content (Some _) v of is = is
 
 pub kept_same : (row next : FileRow) → next ≡ row → KeptMoves row next
 kept_same row next same = record { head = moves_none row.head next.head (ap (λ (r : FileRow). r.head) same); held = λ v is. subst (λ (r : FileRow). has_version r.held v ≡ true) (sym same) is }
@@ -198,7 +200,7 @@ module _ (site : Site) (awake : Awake)
   step_moves f from content its fit ask heard mine =
       record {
         head = (step_any f from content its fit ask heard).moves mine;
-        held = λ v is. subst (λ (r : FileRow). has_version r.held v ≡ true) (sym (step_follows site f from content)) (held_grows f.kept (step_of_file site f from content).turned.rec v is);
+        held = λ v is. subst (λ (r : FileRow). has_version r.held v ≡ true) (sym (step_follows site f from content)) (held_grows f.kept content (step_of_file site f from content).turned.rec v (step_rec site f from content) is);
       }
 
   -- ---- a Wake

@@ -18,7 +18,7 @@ use Rattle.reply_cache.specs.declared.Standing.TheVariants as standing
 use Rattle.reply_cache.specs.Standings.{standing_of}
 use Rattle.registry_table.specs.Registry as registry
 use Rattle.volume_rows.specs.declared.Asker.{Asker}
-use Rattle.server_rows.specs.Requests.{is_recorded, is_spent, outcome_of}
+use Rattle.server_rows.specs.Requests.{is_recorded, is_taken, is_spent, outcome_of}
 use Rattle.server_rows.specs.Metadata as metadata
 use Rattle.server_rows.specs.Metadata.{MrcState, MrcStep, step_of_mrc}
 use Rattle.server_rows.specs.Directory as directory
@@ -44,6 +44,13 @@ module _ (key : List ℕ) where
   stands_small m client number who request (standing.Again answer) = ((refl, tt), tt)
   stands_small m client number who request standing.Older = tt
 
+  asked_small : (m : MrcState) (client : NodeId) (number : ℕ) (who : Asker) (request : MetaReq) → MrcSmall (metadata.requested key m client number who request)
+  asked_small m client number who request = at (is_taken request)
+    where
+      at : (taken : Bool) → MrcSmall (cond taken (metadata.by_standing key m client number who request (standing_of m.catalogue.clients client number)) (metadata.nothing m))
+      at true = stands_small m client number who request (standing_of m.catalogue.clients client number)
+      at false = tt
+
   rows_small : (m : MrcState) (from : NodeId) (rows : List RegistryRow) → MrcSmall (metadata.rows_heard m from rows)
   rows_small m from rows = at (metadata.is_dir from)
     where
@@ -56,7 +63,7 @@ module _ (key : List ℕ) where
   listed_small m from number _ = tt
 
   told_small : (m : MrcState) (from : NodeId) (content : Payload) → MrcSmall (metadata.told_by key m from content)
-  told_small m from (payload.Meta number user group request) = stands_small m from number (record { user = user; group = group }) request (standing_of m.catalogue.clients from number)
+  told_small m from (payload.Meta number user group request) = asked_small m from number (record { user = user; group = group }) request
   told_small m from (payload.RegistryReply number what) = listed_small m from number what
   told_small m from _ = tt
 

@@ -14,6 +14,7 @@ ghost use Rattle.xt_protocol.specs.Serving as rows;
 ghost use Rattle.object_versions.specs.KeptBodies.{fault_of, ReadsOnly};
 ghost use Rattle.object_versions.specs.Rising.{HeadRises};
 ghost use Rattle.osd_decisions.specs.Committed.{CommittedRises, CommittedUnder};
+ghost use Rattle.osd_decisions.specs.Near.{IsNear};
 ghost use Rattle.replica_primary.specs.Moves.{peers_under};
 ghost use Rattle.replica_primary.specs.Written.{ground, tenure_after, led_of, led_under, with_issued, under_issued};
 
@@ -147,6 +148,7 @@ fn next_update<B: Bodies>(
 ) -> Result<Option<Update>, StepErr>
     requires some { 1024 ≤ place.now.stripe }
     requires fits { FitsOp op.now }
+    requires near { IsNear op.now }
     requires rising { HeadRises head.now }
     ensures value { IfOk result (λ update. (records : List Record) → B.agrees bodies.new records →
         (own : FileHead) (held : List ObjectVersion) →
@@ -226,6 +228,7 @@ fn fresh_write<B: Bodies>(
 ) -> Result<Option<Written>, StepErr>
     requires some { 1024 ≤ place.now.stripe }
     requires fits { FitsOp op.now }
+    requires near { IsNear op.now }
     requires rising { HeadRises head.now }
     requires active { tenure.now.progress ≡ progress.Active head.now issued.now }
     ensures value { IfOk result (λ written. (records : List Record) → B.agrees bodies.new records →

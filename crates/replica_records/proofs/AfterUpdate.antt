@@ -1,8 +1,8 @@
 -- a head's lists after an update
-use Rattle.std.proofs.Common.{◌≡◌, ◌↔◌, ◌⊎◌, inl, inr, ◌==◌, ◌+◌, ◌<◌, ◌^◌, ◌-◌, true, false, List, ap, ◌∙◌, arith}
+use Rattle.std.proofs.Common.{◌≡◌, ◌↔◌, ◌⊎◌, inl, inr, ◌==◌, ◌+◌, ℕ, true, List, ap, ◌∙◌, arith}
 use Rattle.std.proofs.lemmas.Bool.Decides.{nat_tests}
 use Rattle.std.specs.List.{AllByRecursion}
-use Rattle.xt_messages.specs.Limits.{rise, FitsUpdate, FitsStamp, FitsOpId, FitsMark, IsObjectOrNone, FitsVersion, FitsSession, FitsHead, is_at_most}
+use Rattle.xt_messages.specs.Limits.{rise, FitsUpdate, FitsStamp, FitsOpId, FitsMark, IsObject, IsObjectOrNone, FitsVersion, FitsSession, FitsHead, is_at_most}
 use Rattle.xt_base.specs.declared.ids.Epoch.{Epoch}
 use Rattle.xt_messages.specs.declared.file.ObjectVersion.{ObjectVersion}
 use Rattle.xt_messages.specs.declared.file.Session.{Session}
@@ -19,10 +19,14 @@ use Rattle.replica_records.specs.Sound.{HasRoomFor, FitsLists}
 first_first : (epoch : Epoch) → is_at_most first_epoch epoch ≡ true
 first_first epoch = grind (arith, nat_tests)
 
+number_of : (object : ℕ) → IsObjectOrNone object → IsObject object
+number_of object (inl less) = omega arith
+number_of object (inr none) = omega arith
+
 itself : (epoch : Epoch) → is_at_most epoch epoch ≡ true
 itself epoch = grind (arith, nat_tests)
 
-module _ (head : FileHead) (update : Update) (lists : FitsLists head) (place : FitsStamp update.stamp) (operation : FitsOpId update.id) (gets : IsObjectOrNone update.object) where
+module _ (head : FileHead) (update : Update) (lists : FitsLists head) (place : FitsStamp update.stamp) (operation : FitsOpId update.id) (gets : IsObject update.object) where
   abbrev left : Session
   left = record { client = update.id.client; number = update.id.number; count = update.stamp.count }
 
@@ -35,18 +39,11 @@ module _ (head : FileHead) (update : Update) (lists : FitsLists head) (place : F
   below_up : rise (objects_of below) ≡ true
   below_up = below_still_rise head.versions update.drop_from lists.rising.versions
 
-  number_of : (update.object == NO_OBJECT) ≡ false → update.object < 2 ^ 32 - 1
-  number_of differs = at gets
-    where
-      at : (update.object < 2 ^ 32 - 1) ⊎ (update.object ≡ NO_OBJECT) → update.object < 2 ^ 32 - 1
-      at (inl less) = less
-      at (inr none) = absurd (let is : (update.object == NO_OBJECT) ≡ true = grind (arith, nat_tests) in cc (is, differs))
-
   each_version : AllByRecursion FitsVersion (head_after head update).versions
   each_version =
       when (AllByRecursion FitsVersion) (update.object == NO_OBJECT) _ _ (λ none. below_each)
       (λ differs. version_all FitsVersion below update.object update.stamp below_each
-      (record { which = (let less = number_of differs in omega arith); write = place }))
+      (record { which = gets; write = place }))
 
   versions_up : rise (objects_of (head_after head update).versions) ≡ true
   versions_up =
@@ -83,6 +80,6 @@ pub follows : (head : FileHead) (update : Update) → FitsLists head → FitsUpd
     → ((update.stamp.epoch ≡ head.promised) ⊎ (update.stamp.epoch ≡ first_epoch)) × (update.stamp.count ≡ head.stamp.count + 1)
     → HasRoomFor head update ↔ FollowsHead head update
 follows head update lists fits next = (
-  λ room. (next.0, next.1, fits_after head update lists fits.place fits.operation fits.gets fits.after next.0 room),
+  λ room. (next.0, next.1, fits_after head update lists fits.place fits.operation (number_of update.object fits.gets) fits.after next.0 room),
   λ is. (is.2.objects.few, is.2.clients.few),
 )

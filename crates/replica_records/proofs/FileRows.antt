@@ -1,19 +1,18 @@
 -- Rows that rise by file: where a search finds a file's row.
-use Rattle.std.proofs.Common.{◌≡◌, ℕ, zero, suc, ◌+◌, ◌<◌, ◌≤◌, true, List, [], ◌∷◌, ◌++◌, length, get_or, take, set, Result, Ok, Err, refl, ap, sym, subst, ◌∙◌, arith, add-one}
+use Rattle.std.proofs.Common.{◌≡◌, ℕ, zero, suc, ◌+◌, ◌<◌, ◌≤◌, true, not, cond, List, [], ◌∷◌, ◌++◌, length, get_or, take, drop, set, Result, Ok, Err, refl, ap, sym, subst, ◌∙◌, arith, add-one}
 use Rattle.std.specs.List.{AllByRecursion, insert}
 use Rattle.std.specs.List.Sorted.{IsBinarySearchResult, IsNonDecreasingBy, IsSortedBy}
 use Rattle.std.specs.List.Sorted.{IsSearchInRange}
-use Rattle.std.specs.Ordering.{is_lt, ordering_index}
+use Rattle.std.specs.Ordering.{is_eq, is_lt, ordering_index}
 use Rattle.std.specs.declared.cmp.Ordering.TheVariants.{Less, Equal, Greater}
 use Rattle.std.proofs.lemmas.List.Sorted.{searchable_from_sorted}
 use Rattle.std.proofs.lemmas.List.{take_more}
 use Rattle.xt_base.specs.declared.ids.FileId.{FileId}
 use Rattle.xt_messages.specs.declared.record.FileRow.{FileRow}
 use Rattle.xt_messages.specs.declared.record.Record.{Record}
-use Rattle.xt_messages.specs.declared.record.Record.TheVariants as kept
 use Rattle.xt_protocol.specs.FileIds.{is_before, file_cmp}
-use Rattle.xt_protocol.specs.Folds.{row_in, with_row, new_row, row_after, fold_of, folded_after}
-use Rattle.xt_protocol.proofs.Folds.{file_cmp_total, row_in-file, fold_of-push}
+use Rattle.xt_protocol.specs.Folds.{row_in, with_row, without_row, new_row, row_after, fold_of, folded_after}
+use Rattle.xt_protocol.proofs.Folds.{file_cmp_total, is_file-file_cmp, row_in-file, row_after-file, fold_of-push}
 use Rattle.xt_protocol.proofs.FileRows.{less, back, equal_files, put_behind, put_over, put_before, read_behind, read_here, read_before}
 use Rattle.replica_records.specs.RowPlaces.{FilesRise, IsFilePlace}
 
@@ -85,6 +84,53 @@ missing_read (r ∷ rows) (suc i) file le below above =
     read_behind r rows file (below 0 r (omega arith))
     ∙ missing_read rows i file (omega arith) (λ k d lt. below (suc k) d (omega arith)) (λ k d ge lt. above (suc k) d (omega arith) (omega arith))
 
+-- ---- what is left when a file's row is removed
+
+-- the tests that `without_row` makes at a row
+module _ (r : FileRow) (rest : List FileRow) (file : FileId) where
+  goes : file_cmp r.file file ≡ Equal → without_row (r ∷ rest) file ≡ without_row rest file
+  unfolding without_row
+  goes is = ap (λ t. cond (not t) (r ∷ without_row rest file) (without_row rest file)) (is_file-file_cmp r.file file ∙ ap is_eq is)
+
+  stays_before : file_cmp r.file file ≡ Less → without_row (r ∷ rest) file ≡ r ∷ without_row rest file
+  unfolding without_row
+  stays_before is = ap (λ t. cond (not t) (r ∷ without_row rest file) (without_row rest file)) (is_file-file_cmp r.file file ∙ ap is_eq is)
+
+  stays_behind : file_cmp r.file file ≡ Greater → without_row (r ∷ rest) file ≡ r ∷ without_row rest file
+  unfolding without_row
+  stays_behind is = ap (λ t. cond (not t) (r ∷ without_row rest file) (without_row rest file)) (is_file-file_cmp r.file file ∙ ap is_eq is)
+
+all_behind : (file : FileId) (rows : List FileRow) → AllByRecursion (λ later. is_before file later.file ≡ true) rows → without_row rows file ≡ rows
+unfolding without_row
+all_behind file [] all = refl
+all_behind file (r ∷ rows) all =
+    stays_behind r rows file (back r.file file Less (less _ all.0)) ∙ ap (λ t. r ∷ t) (all_behind file rows all.1)
+
+found_rest : (rows : List FileRow) (i : ℕ) (file : FileId) → FilesRise rows → i < length rows → ((d : FileRow) → file_cmp (get_or rows i d).file file ≡ Equal)
+    → without_row rows file ≡ take i rows ++ drop (suc i) rows
+found_rest [] i file rise lt here = absurd (omega arith)
+found_rest (r ∷ rows) zero file rise lt here =
+    let same : r.file ≡ file = equal_files _ _ (here r) in
+    goes r rows file (here r) ∙ all_behind file rows (subst (λ f. AllByRecursion (λ later. is_before f later.file ≡ true) rows) same rise.0)
+found_rest (r ∷ rows) (suc i) file rise lt here =
+    let same : (get_or rows i r).file ≡ file = equal_files _ _ (here r) in
+    let behind : file_cmp r.file file ≡ Less = ap (file_cmp r.file) (sym same) ∙ less _ (before_later r.file rows i r rise.0 (omega arith)) in
+    stays_before r rows file behind ∙ ap (λ t. r ∷ t) (found_rest rows i file rise.1 (omega arith) here)
+
+found_out : (rows : List FileRow) (i : ℕ) (file : FileId) → FilesRise rows → i < length rows → ((d : FileRow) → file_cmp (get_or rows i d).file file ≡ Equal)
+    → without_row rows file ≡ take i rows ++ drop (i + 1) rows
+found_out rows i file rise lt here = rw add-one (found_rest rows i file rise lt here)
+
+missing_out : (rows : List FileRow) (i : ℕ) (file : FileId) → i ≤ length rows → Below rows file i → Above rows file i → without_row rows file ≡ rows
+unfolding without_row
+missing_out [] i file le below above = refl
+missing_out (r ∷ rows) zero file le below above =
+    stays_behind r rows file (above 0 r (omega arith) (omega arith))
+    ∙ ap (λ t. r ∷ t) (missing_out rows zero file (omega arith) (λ k d lt. absurd (omega arith)) (λ k d ge lt. above (suc k) d (omega arith) (omega arith)))
+missing_out (r ∷ rows) (suc i) file le below above =
+    stays_before r rows file (below 0 r (omega arith))
+    ∙ ap (λ t. r ∷ t) (missing_out rows i file (omega arith) (λ k d lt. below (suc k) d (omega arith)) (λ k d ge lt. above (suc k) d (omega arith) (omega arith)))
+
 -- what the search of a list that rises answers
 pub searched : (rows : List FileRow) (file : FileId) (r : Result ℕ ℕ) → FilesRise rows → IsBinarySearchResult (λ y. file_cmp y.file file) rows r
     → IsSearchInRange r (length rows) → IsFilePlace rows file r
@@ -92,6 +138,7 @@ searched rows file (Ok i) rise here bound = (
   bound,
   λ d. found_read rows i file d rise bound here,
   λ row same. found_put rows i row rise bound (λ d. ap (file_cmp (get_or rows i d).file) same ∙ here d),
+  found_out rows i file rise bound here,
 )
 searched rows file (Err i) rise there bound =
     let parts = there (searchable rows file rise) in
@@ -100,19 +147,10 @@ searched rows file (Err i) rise there bound =
       bound,
       missing_read rows i file bound below above,
       λ row same. missing_put rows i row bound (λ k d lt. ap (file_cmp (get_or rows k d).file) same ∙ below k d lt) (λ k d ge lt. ap (file_cmp (get_or rows k d).file) same ∙ above k d ge lt),
+      missing_out rows i file bound below above,
     )
 
 -- ---- the row that stands at a place, changed
-
--- a record leaves the row its file
-row_after-file : (row : FileRow) (rec : Record) → (row_after row rec).file ≡ row.file
-row_after-file row (kept.Promise file epoch) = refl
-row_after-file row (kept.Update file update) = refl
-row_after-file row (kept.Stage file object version bytes) = refl
-row_after-file row (kept.Head file head) = refl
-row_after-file row (kept.View file location) = refl
-row_after-file row (kept.Boot boot) = refl
-row_after-file row (kept.Meta from number now nodes request) = refl
 
 pub changed_put : (rows : List FileRow) (file : FileId) (i : ℕ) (old new : FileRow) → IsFilePlace rows file (Ok i) → old ≡ get_or rows i old → new.file ≡ old.file → with_row rows new ≡ set rows i new
 changed_put rows file i old new place stood same =

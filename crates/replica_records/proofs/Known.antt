@@ -1,15 +1,16 @@
 -- What is known of records on a disk says what they say, stands in the same places and is as long. Where the disk's contents are known, it is these
 -- very records.
-use Rattle.std.proofs.Common.{◌≡◌, ◌==◌, ◌&&◌, ℕ, suc, Bool, true, false, cond, List, [], ◌∷◌, ◌++◌, length, map, replicate, Option, Some, None, unwrap_or, refl, ap, sym, subst, ◌∙◌, zero, arith}
+use Rattle.std.proofs.Common.{◌≡◌, ◌==◌, ℕ, suc, Bool, true, false, cond, List, [], ◌∷◌, ◌++◌, length, map, replicate, Option, Some, None, unwrap_or, refl, ap, sym, subst, ◌∙◌, zero, arith}
 use Rattle.std.specs.Prelude.{◌<◌, filter, slice_index}
 use Rattle.std.specs.List.{fold}
 use Rattle.std.specs.Option.{option_map}
+use Rattle.std.specs.Ordering.{is_eq}
 use Rattle.std.proofs.lemmas.List.{length-append, length-map, length-replicate, map-append}
 use Rattle.std.proofs.lemmas.List.Elements.{All-push}
-use Rattle.xt_base.specs.FieldLimits.{AreBytes, FitsBytes}
+use Rattle.xt_base.specs.FieldLimits.{AreBytes}
 use Rattle.xt_base.specs.declared.ids.FileId.{FileId}
 use Rattle.xt_base.specs.declared.ids.Stamp.{Stamp}
-use Rattle.xt_messages.specs.Limits.{FitsRecord}
+use Rattle.xt_messages.specs.Limits.{FitsUpdate, FitsRecord}
 use Rattle.xt_messages.specs.declared.file.Location.{Location}
 use Rattle.xt_messages.specs.declared.file.ObjectVersion.{ObjectVersion}
 use Rattle.xt_messages.specs.declared.file.Update.{Update}
@@ -18,18 +19,19 @@ use Rattle.xt_messages.specs.declared.record.Folded.{Folded}
 use Rattle.xt_messages.specs.declared.record.KeepBody.{KeepBody}
 use Rattle.xt_messages.specs.declared.record.Record.{Record}
 use Rattle.xt_messages.specs.declared.record.Record.TheVariants as kept
-use Rattle.xt_fields.specs.BasicFields.{word_bytes, octets_bytes}
-use Rattle.xt_wire.specs.IdFields.{file_bytes, stamp_bytes}
-use Rattle.xt_wire.specs.FileFields.{update_bytes}
-use Rattle.xt_wire.proofs.FieldLengths.{octets_len, update_len}
-use Rattle.xt_protocol.specs.FileIds.{is_file}
-use Rattle.xt_protocol.specs.Stamps.{is_stamp}
-use Rattle.xt_protocol.specs.Folds.{folded_after, nothing_kept, fold_of, is_logged, logged_of, IsInPlace, AreInPlace, makes_body, body_put, newer, body_after, body_kept}
-use Rattle.xt_protocol.specs.Forgetting.{row_without, view_of, stage_of, records_of_row, records_of_rows, rewritten}
+use Rattle.xt_protocol.specs.Folds.{folded_after, nothing_kept, fold_of, is_logged, logged_of, widened, IsInPlace, AreInPlace, body_put, newer, body_after, body_kept}
+use Rattle.xt_protocol.proofs.Folds.{logged_widened}
+use Rattle.xt_protocol.specs.Forgetting.{row_without, view_of, close_of, stage_of, records_of_row, records_of_rows, rewritten}
 use Rattle.xt_protocol.specs.SeenBodies.{body_by}
 use Rattle.replica_records.specs.RecordText.{record_text}
-use Rattle.replica_records.specs.Places.{body_in}
+use Rattle.replica_records.specs.declared.places.BodyKey.{BodyKey}
+use Rattle.replica_records.specs.Bare.{body_in, with_body}
+use Rattle.replica_records.specs.Fronts.{front_text}
+use Rattle.replica_records.specs.Places.{body_cmp, key_put}
 use Rattle.replica_records.specs.Known.{without_body, as_known, known_of, Sees}
+use Rattle.replica_records.proofs.BodyLaws.{fold_map, folded_set, get_made, in_place_set, key_set, of_requests, put_back, requests_of, set_back, set_set}
+use Rattle.replica_records.proofs.FrontText.{front_and_own, front_then_body}
+use Rattle.replica_records.proofs.Placing.{put_for, put_is}
 
 -- ---- zeros in place of bytes
 
@@ -54,14 +56,14 @@ known_append told xs ys = map-append (as_known told) xs ys
 pub known_length : (told : Bool) (records : List Record) → length (known_of told records) ≡ length records
 known_length told records = length-map records (as_known told)
 
+-- as many zeros are in it
+zeros_in : (rec : Record) → body_in (without_body rec) ≡ zeros (body_in rec)
+zeros_in = get_made zeros refl
+
 without_again : (rec : Record) → without_body (without_body rec) ≡ without_body rec
-without_again (kept.Update file update) = ap (λ body. kept.Update file (record update { body = body })) (zeros_again update.body)
-without_again (kept.Stage file object version bytes) = ap (kept.Stage file object version) (zeros_again bytes)
-without_again (kept.Boot boot) = refl
-without_again (kept.Promise file epoch) = refl
-without_again (kept.Head file head) = refl
-without_again (kept.View file location) = refl
-without_again (kept.Meta from number now nodes request) = refl
+without_again rec =
+    set_set (zeros (body_in (without_body rec))) (zeros (body_in rec)) rec
+    ∙ ap (λ (b : List ℕ). with_body b rec) (ap zeros (zeros_in rec) ∙ zeros_again (body_in rec))
 
 pub as_known_again : (told : Bool) (rec : Record) → as_known told (as_known told rec) ≡ as_known told rec
 as_known_again true rec = refl
@@ -75,74 +77,36 @@ known_again told (r ∷ rs) = λ i. as_known_again told r i ∷ known_again told
 
 folded_known : (told : Bool) (folded : Folded) (rec : Record) → folded_after folded (as_known told rec) ≡ folded_after folded rec
 folded_known true folded rec = refl
-folded_known false folded (kept.Update file update) = refl
-folded_known false folded (kept.Stage file object version bytes) = refl
-folded_known false folded (kept.Boot boot) = refl
-folded_known false folded (kept.Promise file epoch) = refl
-folded_known false folded (kept.Head file head) = refl
-folded_known false folded (kept.View file location) = refl
-folded_known false folded (kept.Meta from number now nodes request) = refl
-
-fold_from : (told : Bool) (folded : Folded) (records : List Record) → fold folded_after folded (known_of told records) ≡ fold folded_after folded records
-fold_from told folded [] = refl
-fold_from told folded (r ∷ rs) = ap (λ f. fold folded_after f (known_of told rs)) (folded_known told folded r) ∙ fold_from told (folded_after folded r) rs
+folded_known false folded rec = folded_set folded (zeros (body_in rec)) rec
 
 pub fold_known : (told : Bool) (records : List Record) → fold_of (known_of told records) ≡ fold_of records
 unfolding fold_of
-fold_known told records = fold_from told nothing_kept records
-
-logged_without : (records : List Record) → filter is_logged (known_of false records) ≡ filter is_logged records
-logged_without [] = refl
-logged_without (kept.Update file update ∷ rs) = logged_without rs
-logged_without (kept.Stage file object version bytes ∷ rs) = logged_without rs
-logged_without (kept.Boot boot ∷ rs) = logged_without rs
-logged_without (kept.Promise file epoch ∷ rs) = logged_without rs
-logged_without (kept.Head file head ∷ rs) = logged_without rs
-logged_without (kept.View file location ∷ rs) = logged_without rs
-logged_without (kept.Meta from number now nodes request ∷ rs) = ap (λ l. kept.Meta from number now nodes request ∷ l) (logged_without rs)
+fold_known told records = fold_map folded_after (as_known told) (folded_known told) nothing_kept records
 
 pub logged_known : (told : Bool) (records : List Record) → logged_of (known_of told records) ≡ logged_of records
 unfolding logged_of
 logged_known true records = ap (filter is_logged) (known_told records)
-logged_known false records = logged_without records
-
-without_logged : (records : List Record) → known_of false (filter is_logged records) ≡ filter is_logged records
-without_logged [] = refl
-without_logged (kept.Update file update ∷ rs) = without_logged rs
-without_logged (kept.Stage file object version bytes ∷ rs) = without_logged rs
-without_logged (kept.Boot boot ∷ rs) = without_logged rs
-without_logged (kept.Promise file epoch ∷ rs) = without_logged rs
-without_logged (kept.Head file head ∷ rs) = without_logged rs
-without_logged (kept.View file location ∷ rs) = without_logged rs
-without_logged (kept.Meta from number now nodes request ∷ rs) = ap (λ l. kept.Meta from number now nodes request ∷ l) (without_logged rs)
+logged_known false records = requests_of (λ rec. zeros (body_in rec)) records
 
 -- records of requests are known in full
 pub known_logged : (told : Bool) (records : List Record) → known_of told (logged_of records) ≡ logged_of records
 unfolding logged_of
 known_logged true records = known_told (filter is_logged records)
-known_logged false records = without_logged records
+known_logged false records = of_requests (λ rec. zeros (body_in rec)) records
+
+-- and so they are where they are widened
+known_widened : (records : List Record) → known_of false (map widened (logged_of records)) ≡ map widened (logged_of records)
+known_widened records = ap (known_of false) (sym (logged_widened records)) ∙ known_logged false (map widened records) ∙ logged_widened records
 
 -- ---- their places and limits
 
 pub in_place_known : (told : Bool) (folded : Folded) (rec : Record) → IsInPlace folded rec → IsInPlace folded (as_known told rec)
 in_place_known true folded rec is = is
-in_place_known false folded (kept.Update file update) is = is
-in_place_known false folded (kept.Stage file object version bytes) is = is
-in_place_known false folded (kept.Boot boot) is = is
-in_place_known false folded (kept.Promise file epoch) is = is
-in_place_known false folded (kept.Head file head) is = is
-in_place_known false folded (kept.View file location) is = is
-in_place_known false folded (kept.Meta from number now nodes request) is = is
+in_place_known false folded rec is = in_place_set folded (zeros (body_in rec)) rec is
 
 pub known_in_place : (told : Bool) (folded : Folded) (rec : Record) → IsInPlace folded (as_known told rec) → IsInPlace folded rec
 known_in_place true folded rec is = is
-known_in_place false folded (kept.Update file update) is = is
-known_in_place false folded (kept.Stage file object version bytes) is = is
-known_in_place false folded (kept.Boot boot) is = is
-known_in_place false folded (kept.Promise file epoch) is = is
-known_in_place false folded (kept.Head file head) is = is
-known_in_place false folded (kept.View file location) is = is
-known_in_place false folded (kept.Meta from number now nodes request) is = is
+known_in_place false folded rec is = put_back (IsInPlace folded) (in_place_set folded) (zeros (body_in rec)) rec is
 
 pub are_in_place_known : (told : Bool) (folded : Folded) (records : List Record) → AreInPlace folded records → AreInPlace folded (known_of told records)
 are_in_place_known told folded [] are = tt
@@ -163,28 +127,28 @@ zero_bytes zero i = omega arith
 zero_bytes (suc n) zero = omega arith
 zero_bytes (suc n) (suc i) = zero_bytes n i
 
-zeros_fit : (bytes : List ℕ) → FitsBytes bytes → FitsBytes (zeros bytes)
-zeros_fit bytes fits = record { all = zero_bytes (length bytes); few = omega (arith, zeros_length bytes, fits.few) }
+update_fits_set : (body : List ℕ) (update : Update) → AreBytes body → length body ≡ length update.body → FitsUpdate update → FitsUpdate (record update { body = body })
+update_fits_set body update all size fits = record {
+  place = fits.place;
+  operation = fits.operation;
+  after = fits.after;
+  drops = fits.drops;
+  gets = fits.gets;
+  bytes = record { all = all; few = omega (arith, size, fits.bytes.few) };
+  empty = ap (λ n. n == 0) size ∙ fits.empty;
+}
+
+-- a record fits with any bytes of the number of its own
+pub fits_set : (body : List ℕ) (rec : Record) → AreBytes body → length body ≡ length (body_in rec) → FitsRecord rec → FitsRecord (with_body body rec)
+fits_set body (kept.Update file update) all size fits = (fits.0, update_fits_set body update all size fits.1)
+fits_set body (kept.Stage file object version bytes) all size fits = (fits.0, fits.1, fits.2, record { all = all; few = omega (arith, size, fits.3.few) })
+fits_set body (kept.OldUpdate file update) all size fits =
+    (fits.0, record { fits = update_fits_set body update all size fits.1.fits; drops = fits.1.drops; gets = fits.1.gets })
+fits_set body (kept.OldStage file object version bytes) all size fits = (fits.0, fits.1, fits.2, record { all = all; few = omega (arith, size, fits.3.few) })
+fits_set body rec all size fits = fits
 
 fits_without : (rec : Record) → FitsRecord rec → FitsRecord (without_body rec)
-fits_without (kept.Update file update) fits = (
-  fits.0,
-  record {
-    place = fits.1.place;
-    operation = fits.1.operation;
-    after = fits.1.after;
-    drops = fits.1.drops;
-    gets = fits.1.gets;
-    bytes = zeros_fit update.body fits.1.bytes;
-    empty = ap (λ n. n == 0) (zeros_length update.body) ∙ fits.1.empty;
-  },
-)
-fits_without (kept.Stage file object version bytes) fits = (fits.0, fits.1, fits.2, zeros_fit bytes fits.3)
-fits_without (kept.Boot boot) fits = fits
-fits_without (kept.Promise file epoch) fits = fits
-fits_without (kept.Head file head) fits = fits
-fits_without (kept.View file location) fits = fits
-fits_without (kept.Meta from number now nodes request) fits = fits
+fits_without rec fits = fits_set (zeros (body_in rec)) rec (zero_bytes (length (body_in rec))) (zeros_length (body_in rec)) fits
 
 pub fits_known : (told : Bool) (rec : Record) → FitsRecord rec → FitsRecord (as_known told rec)
 fits_known true rec fits = fits
@@ -192,25 +156,9 @@ fits_known false rec fits = fits_without rec fits
 
 -- a record fits whose body's bytes are bytes, where what is known of it fits
 fits_with : (rec : Record) → AreBytes (body_in rec) → FitsRecord (without_body rec) → FitsRecord rec
-fits_with (kept.Update file update) all fits = (
-  fits.0,
-  record {
-    place = fits.1.place;
-    operation = fits.1.operation;
-    after = fits.1.after;
-    drops = fits.1.drops;
-    gets = fits.1.gets;
-    bytes = record { all = all; few = omega (arith, zeros_length update.body, fits.1.bytes.few) };
-    empty = ap (λ n. n == 0) (sym (zeros_length update.body)) ∙ fits.1.empty;
-  },
-)
-fits_with (kept.Stage file object version bytes) all fits =
-    (fits.0, fits.1, fits.2, record { all = all; few = omega (arith, zeros_length bytes, fits.3.few) })
-fits_with (kept.Boot boot) all fits = fits
-fits_with (kept.Promise file epoch) all fits = fits
-fits_with (kept.Head file head) all fits = fits
-fits_with (kept.View file location) all fits = fits
-fits_with (kept.Meta from number now nodes request) all fits = fits
+fits_with rec all fits =
+    let size : length (body_in rec) ≡ length (body_in (without_body rec)) = sym (ap length (zeros_in rec) ∙ zeros_length (body_in rec)) in
+    subst FitsRecord (set_back (zeros (body_in rec)) rec) (fits_set (body_in rec) (without_body rec) all size fits)
 
 pub known_fits : (told : Bool) (rec : Record) → AreBytes (body_in rec) → FitsRecord (as_known told rec) → FitsRecord rec
 known_fits true rec all fits = fits
@@ -218,32 +166,20 @@ known_fits false rec all fits = fits_with rec all fits
 
 -- ---- their lengths
 
+-- a record with its own body or another as long
+pub text_set : (body : List ℕ) (rec : Record) → body_in (with_body body rec) ≡ body → length body ≡ length (body_in rec) → length (record_text (with_body body rec)) ≡ length (record_text rec)
+text_set body rec puts size =
+    omega (
+      arith,
+      ap length (front_then_body (length (body_in rec)) rec body size puts),
+      length-append (front_text (length (body_in rec)) rec) body,
+      ap length (front_and_own rec),
+      length-append (front_text (length (body_in rec)) rec) (body_in rec),
+      size,
+    )
+
 text_without : (rec : Record) → length (record_text (without_body rec)) ≡ length (record_text rec)
-text_without (kept.Update file update) =
-    let zeroed : Update = record update { body = zeros update.body } in
-    omega (
-      arith,
-      length-append (file_bytes file) (update_bytes zeroed),
-      length-append (file_bytes file) (update_bytes update),
-      update_len zeroed,
-      update_len update,
-      zeros_length update.body,
-    )
-text_without (kept.Stage file object version bytes) =
-    let front = file_bytes file ++ word_bytes object ++ stamp_bytes version in
-    omega (
-      arith,
-      length-append front (octets_bytes (zeros bytes)),
-      length-append front (octets_bytes bytes),
-      octets_len (zeros bytes),
-      octets_len bytes,
-      zeros_length bytes,
-    )
-text_without (kept.Boot boot) = refl
-text_without (kept.Promise file epoch) = refl
-text_without (kept.Head file head) = refl
-text_without (kept.View file location) = refl
-text_without (kept.Meta from number now nodes request) = refl
+text_without rec = text_set (zeros (body_in rec)) rec (zeros_in rec) (zeros_length (body_in rec))
 
 pub text_known : (told : Bool) (rec : Record) → length (record_text (as_known told rec)) ≡ length (record_text rec)
 text_known true rec = refl
@@ -252,18 +188,22 @@ text_known false rec = text_without rec
 -- ---- bodies
 
 module _ (file : FileId) (object : ℕ) (version : Stamp) where
-  zeros_if : (puts : Bool) (bytes : List ℕ) → cond puts (Some (zeros bytes)) None ≡ option_map zeros (cond puts (Some bytes) None)
-  zeros_if true bytes = refl
-  zeros_if false bytes = refl
+  put_zeros : (key : Option BodyKey) (q : BodyKey) (bytes : List ℕ) → put_for key q (zeros bytes) ≡ option_map zeros (put_for key q bytes)
+  put_zeros None q bytes = refl
+  put_zeros (Some key) q bytes = at (is_eq (body_cmp key q))
+    where
+      at : (tied : Bool) → cond tied (Some (zeros bytes)) None ≡ option_map zeros (cond tied (Some bytes) None)
+      at true = refl
+      at false = refl
 
   put_without : (rec : Record) → body_put file object version (without_body rec) ≡ option_map zeros (body_put file object version rec)
-  put_without (kept.Update f update) = zeros_if (is_file f file && makes_body update object version) update.body
-  put_without (kept.Stage f o v bytes) = zeros_if (is_file f file && (o == object) && is_stamp v version) bytes
-  put_without (kept.Boot boot) = refl
-  put_without (kept.Promise f epoch) = refl
-  put_without (kept.Head f head) = refl
-  put_without (kept.View f location) = refl
-  put_without (kept.Meta from number now nodes request) = refl
+  put_without rec =
+      let q : BodyKey = record { file = file; object = object; version = version } in
+      put_is (without_body rec) q
+      ∙ ap (λ (k : Option BodyKey). put_for k q (body_in (without_body rec))) (key_set (zeros (body_in rec)) rec)
+      ∙ ap (put_for (key_put rec) q) (zeros_in rec)
+      ∙ put_zeros (key_put rec) q (body_in rec)
+      ∙ ap (option_map zeros) (sym (put_is rec q))
 
   newer_zeros : (before put : Option (List ℕ)) → newer (option_map zeros before) (option_map zeros put) ≡ option_map zeros (newer before put)
   newer_zeros before None = refl
@@ -310,6 +250,10 @@ view_without : (file : FileId) (location : Option Location) → known_of false (
 view_without file None = refl
 view_without file (Some location) = refl
 
+close_without : (file : FileId) (closed : Option ℕ) → known_of false (close_of file closed) ≡ close_of file closed
+close_without file None = refl
+close_without file (Some version) = refl
+
 module _ (records : List Record) where
   stages_without : (file : FileId) (held : List ObjectVersion)
       → known_of false (map (stage_of (body_by records) file) held) ≡ map (stage_of (body_by (known_of false records)) file) held
@@ -320,12 +264,15 @@ module _ (records : List Record) where
   row_without_bodies : (row : FileRow) → known_of false (records_of_row (body_by records) row) ≡ records_of_row (body_by (known_of false records)) row
   row_without_bodies row =
       let view = view_of row.file row.location in
+      let close = close_of row.file row.closed in
       let stages = map (stage_of (body_by records) row.file) row.held in
       let end = kept.Head row.file row.head ∷ [] in
-      map-append without_body (view ++ stages) end
-      ∙ ap (λ l. l ++ end) (map-append without_body view stages)
-      ∙ ap (λ l. l ++ known_of false stages ++ end) (view_without row.file row.location)
-      ∙ ap (λ l. view ++ l ++ end) (stages_without row.file row.held)
+      map-append without_body (view ++ close ++ stages) end
+      ∙ ap (λ l. l ++ end) (map-append without_body (view ++ close) stages)
+      ∙ ap (λ l. l ++ known_of false stages ++ end) (map-append without_body view close)
+      ∙ ap (λ l. l ++ known_of false close ++ known_of false stages ++ end) (view_without row.file row.location)
+      ∙ ap (λ l. view ++ l ++ known_of false stages ++ end) (close_without row.file row.closed)
+      ∙ ap (λ l. view ++ close ++ l ++ end) (stages_without row.file row.held)
 
   rows_without_bodies : (rows : List FileRow)
       → known_of false (records_of_rows (body_by records) rows) ≡ records_of_rows (body_by (known_of false records)) rows
@@ -341,12 +288,12 @@ rewritten_without keep records =
     let unknown = known_of false records in
     let rows = map (row_without keep) (fold_of records).files in
     let said : Folded → List Record → List Record = λ folded logged.
-    kept.Boot folded.boot ∷ logged ++ records_of_rows (body_by unknown) (map (row_without keep) folded.files)
+    kept.Boot folded.boot ∷ map widened logged ++ records_of_rows (body_by unknown) (map (row_without keep) folded.files)
     in
     ap (λ l. kept.Boot (fold_of records).boot ∷ l)
-    (map-append without_body (logged_of records) (records_of_rows (body_by records) rows)
-    ∙ ap (λ l. l ++ known_of false (records_of_rows (body_by records) rows)) (known_logged false records)
-    ∙ ap (λ l. logged_of records ++ l) (rows_without_bodies records rows))
+    (map-append without_body (map widened (logged_of records)) (records_of_rows (body_by records) rows)
+    ∙ ap (λ l. l ++ known_of false (records_of_rows (body_by records) rows)) (known_widened records)
+    ∙ ap (λ l. map widened (logged_of records) ++ l) (rows_without_bodies records rows))
     ∙ sym (ap (λ f. said f (logged_of unknown)) (fold_known false records) ∙ ap (said (fold_of records)) (logged_known false records))
 
 -- the records that say the same are known as much as these

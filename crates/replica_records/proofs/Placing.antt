@@ -13,17 +13,19 @@ use Rattle.std.proofs.lemmas.Option.{slice_get-get_or}
 use Rattle.std.proofs.Math.Seq.{get_or-append_seam}
 use Rattle.xt_base.specs.declared.ids.Stamp.{Stamp}
 use Rattle.xt_base.specs.declared.TheConstants.{NO_OBJECT}
+use Rattle.xt_base.specs.declared.ids.FileId.{FileId}
+use Rattle.xt_messages.specs.declared.file.Update.{Update}
 use Rattle.xt_messages.specs.declared.record.Record.{Record}
 use Rattle.xt_messages.specs.declared.record.Record.TheVariants as kept
 use Rattle.xt_protocol.specs.FileIds.{is_file}
 use Rattle.xt_protocol.specs.Stamps.{is_stamp}
 use Rattle.xt_protocol.specs.VersionOrder.{stamp_cmp}
 use Rattle.xt_protocol.proofs.Stamps.{stamp-equal}
-use Rattle.xt_protocol.specs.Folds.{body_put, body_kept, newer}
+use Rattle.xt_protocol.specs.Folds.{makes_body, body_put, body_kept, newer}
 use Rattle.xt_protocol.proofs.Folds.{is_file-file_cmp, file-equal, body_kept-nothing, body_kept-push}
 use Rattle.replica_records.specs.declared.places.BodyKey.{BodyKey}
 use Rattle.replica_records.specs.declared.places.Places.{Places}
-use Rattle.replica_records.specs.Places.{body_cmp, key_put, body_in, body_at, place_in, ArePlacesIn}
+use Rattle.replica_records.specs.Places.{body_cmp, key_made, key_put, body_in, body_at, place_in, ArePlacesIn}
 
 -- ---- keys
 
@@ -58,8 +60,11 @@ abbrev pub put_for : Option BodyKey → BodyKey → List ℕ → Option (List �
 put_for None q bytes = None
 put_for (Some key) q bytes = if is_eq (body_cmp key q) then Some bytes else None
 
-pub put_is : (rec : Record) (q : BodyKey) → body_put q.file q.object q.version rec ≡ put_for (key_put rec) q (body_in rec)
-put_is (kept.Update file update) q = at (update.object == NO_OBJECT)
+-- an update, and a staged body, for a key
+update_put : (file : FileId) (update : Update) (q : BodyKey)
+    → (if is_file file q.file && makes_body update q.object q.version then Some update.body else None)
+    ≡ put_for (key_made file update) q update.body
+update_put file update q = at (update.object == NO_OBJECT)
   where
     key : BodyKey
     key = record { file = file; object = update.object; version = update.stamp }
@@ -79,13 +84,19 @@ put_is (kept.Update file update) q = at (update.object == NO_OBJECT)
     at false =
         ap (λ (t : Bool). if t then Some update.body else None)
         (regrouped (is_file file q.file) (update.object == q.object) (is_stamp update.stamp q.version) ∙ sym (same_key key q))
-put_is (kept.Stage file object version bytes) q =
+
+stage_put : (file : FileId) (object : ℕ) (version : Stamp) (bytes : List ℕ) (q : BodyKey)
+    → (if is_file file q.file && (object == q.object) && is_stamp version q.version then Some bytes else None)
+    ≡ put_for (Some (record { file = file; object = object; version = version })) q bytes
+stage_put file object version bytes q =
     ap (λ t. if t then Some bytes else None) (sym (same_key (record { file = file; object = object; version = version }) q))
-put_is (kept.Boot boot) q = refl
-put_is (kept.Promise file epoch) q = refl
-put_is (kept.Head file head) q = refl
-put_is (kept.View file location) q = refl
-put_is (kept.Meta from number now nodes request) q = refl
+
+pub put_is : (rec : Record) (q : BodyKey) → body_put q.file q.object q.version rec ≡ put_for (key_put rec) q (body_in rec)
+put_is (kept.Update file update) q = update_put file update q
+put_is (kept.OldUpdate file update) q = update_put file update q
+put_is (kept.Stage file object version bytes) q = stage_put file object version bytes q
+put_is (kept.OldStage file object version bytes) q = stage_put file object version bytes q
+put_is _ q = refl
 
 kept_after : (records : List Record) (rec : Record) (q : BodyKey)
     → body_kept (records ++ rec ∷ []) q.file q.object q.version ≡ newer (body_kept records q.file q.object q.version) (put_for (key_put rec) q (body_in rec))

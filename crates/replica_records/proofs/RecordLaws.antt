@@ -20,15 +20,17 @@ use Rattle.xt_wire.specs.IdFields.{node_bytes, node_at}
 use Rattle.xt_wire.specs.FileFields.{members_at}
 use Rattle.xt_fields.specs.OneSpelling.{Taken, IsField}
 use Rattle.xt_fields.proofs.Laws.{IsArm, AreArms, both, arm, arm_again, no_more, or_arm, bind_ok, ok_is, and_is}
-use Rattle.xt_fields.proofs.BasicLaws.{word_field, count_field, body_field, tagged_field}
+use Rattle.xt_fields.proofs.BasicLaws.{word_field, long_field, count_field, body_field, tag_field, tagged_field}
 use Rattle.xt_wire.proofs.IdLaws.{node_field, boot_field, file_field, epoch_field, stamp_field}
-use Rattle.xt_wire.proofs.FileLaws.{members_field, location_field, update_field, head_field}
+use Rattle.xt_wire.proofs.FileLaws.{version_field, members_field, location_field, update_field, head_field}
 use Rattle.xt_wire.proofs.MetaLaws.{meta_req_field}
 use Rattle.xt_wire.proofs.RegistryLaws.{registry_req_field}
 use Rattle.replica_records.specs.declared.errors.RecordErr.{RecordErr}
 use Rattle.replica_records.specs.declared.errors.RecordErr.TheVariants as error
 use Rattle.replica_records.specs.RecordText.{nodes_bytes, logged_bytes, record_text}
-use Rattle.replica_records.specs.RecordFields.{nodes_arms, nodes_at, meta_logged_at, registry_logged_at, logged_arms, logged_at, boot_record_at, promise_record_at, update_record_at, stage_record_at, head_record_at, view_record_at, meta_record_at, record_arms, record_at, whole, recorded, Gives}
+use Rattle.replica_records.proofs.OldLaws as old
+use Rattle.replica_records.proofs.OldLaws.{old_arms_take}
+use Rattle.replica_records.specs.RecordFields.{nodes_arms, nodes_at, meta_logged_at, registry_logged_at, logged_arms, logged_at, boot_record_at, promise_record_at, update_record_at, stage_record_at, head_record_at, view_record_at, meta_record_at, close_record_at, install_record_at, choice_record_at, listed_record_at, seal_record_at, forget_record_at, written_arms, old_update_at, old_stage_at, old_head_at, old_install_at, old_choice_at, old_arms, is_old, record_arms, record_at, whole, recorded, Gives}
 
 -- ---- nodes
 
@@ -120,17 +122,17 @@ promise_arm : IsArm record_text FitsRecord 2 promise_record_at
 unfolding promise_record_at
 promise_arm = arm 2 (both file_field epoch_field) (λ f. kept.Promise f.0 f.1) (λ a. refl) (λ a h. assumption)
 
-update_arm : IsArm record_text FitsRecord 3 update_record_at
+update_arm : IsArm record_text FitsRecord 13 update_record_at
 unfolding update_record_at
-update_arm = arm 3 (both file_field update_field) (λ f. kept.Update f.0 f.1) (λ a. refl) (λ a h. assumption)
+update_arm = arm 13 (both file_field update_field) (λ f. kept.Update f.0 f.1) (λ a. refl) (λ a h. assumption)
 
-stage_arm : IsArm record_text FitsRecord 4 stage_record_at
+stage_arm : IsArm record_text FitsRecord 14 stage_record_at
 unfolding stage_record_at
-stage_arm = arm 4 (both (both (both file_field word_field) stamp_field) body_field) (λ f. kept.Stage f.0.0.0 f.0.0.1 f.0.1 f.1) (λ a. refl) (λ a h. assumption)
+stage_arm = arm 14 (both (both (both file_field long_field) stamp_field) body_field) (λ f. kept.Stage f.0.0.0 f.0.0.1 f.0.1 f.1) (λ a. refl) (λ a h. assumption)
 
-head_arm : IsArm record_text FitsRecord 5 head_record_at
+head_arm : IsArm record_text FitsRecord 15 head_record_at
 unfolding head_record_at
-head_arm = arm 5 (both file_field head_field) (λ f. kept.Head f.0 f.1) (λ a. refl) (λ a h. assumption)
+head_arm = arm 15 (both file_field head_field) (λ f. kept.Head f.0 f.1) (λ a. refl) (λ a h. assumption)
 
 view_arm : IsArm record_text FitsRecord 6 view_record_at
 unfolding view_record_at
@@ -140,19 +142,64 @@ meta_arm : IsArm record_text FitsRecord 7 meta_record_at
 unfolding meta_record_at
 meta_arm = arm 7 (both (both (both (both node_field count_field) count_field) nodes_field) logged_field) (λ f. kept.Meta f.0.0.0.0 f.0.0.0.1 f.0.0.1 f.0.1 f.1) (λ a. refl) (λ a h. (h.0.0.0.0, h.0.0.0.1, h.0.0.1, h.0.1, h.1))
 
-record_arms_take : AreArms record_text FitsRecord record_arms
-unfolding record_arms
-record_arms_take = or_arm 1 boot_arm (or_arm 2 promise_arm (or_arm 3 update_arm (or_arm 4 stage_arm (or_arm 5 head_arm (or_arm 6 view_arm (or_arm 7 meta_arm no_more))))))
+close_arm : IsArm record_text FitsRecord 9 close_record_at
+unfolding close_record_at
+close_arm = arm 9 (both file_field version_field) (λ f. kept.Close f.0 f.1) (λ a. refl) (λ a h. assumption)
+
+install_arm : IsArm record_text FitsRecord 16 install_record_at
+unfolding install_record_at
+install_arm = arm 16 (both (both file_field location_field) head_field) (λ f. kept.Install f.0.0 f.0.1 f.1) (λ a. refl) (λ a h. assumption)
+
+choice_arm : IsArm record_text FitsRecord 17 choice_record_at
+unfolding choice_record_at
+choice_arm = arm 17 (both (both (both file_field location_field) head_field) node_field) (λ f. kept.Choice f.0.0.0 f.0.0.1 f.0.1 f.1) (λ a. refl) (λ a h. assumption)
+
+listed_arm : IsArm record_text FitsRecord 12 listed_record_at
+unfolding listed_record_at
+listed_arm = arm 12 (both file_field version_field) (λ f. kept.Listed f.0 f.1) (λ a. refl) (λ a h. assumption)
+
+seal_arm : IsArm record_text FitsRecord 18 seal_record_at
+unfolding seal_record_at
+seal_arm = arm 18 (both (both (both file_field long_field) stamp_field) tag_field) (λ f. kept.Seal f.0.0.0 f.0.0.1 f.0.1 f.1) (λ a. refl) (λ a h. assumption)
+
+forget_arm : IsArm record_text FitsRecord 19 forget_record_at
+unfolding forget_record_at
+forget_arm = arm 19 file_field kept.Forget (λ a. refl) (λ a h. assumption)
+
+written_arms_take : AreArms record_text FitsRecord written_arms
+unfolding written_arms
+written_arms_take = or_arm 1 boot_arm (or_arm 2 promise_arm (or_arm 6 view_arm (or_arm 7 meta_arm (or_arm 9 close_arm (or_arm 12 listed_arm (or_arm 13 update_arm (or_arm 14 stage_arm (or_arm 15 head_arm (or_arm 16 install_arm (or_arm 17 choice_arm (or_arm 18 seal_arm (or_arm 19 forget_arm no_more))))))))))))
 
 record_again : (b : Record) (rest : List ℕ) → FitsRecord b → tagged record_arms (record_text b ++ rest) ≡ Ok (b, rest)
-unfolding byte_at record_arms boot_record_at promise_record_at update_record_at stage_record_at head_record_at view_record_at meta_record_at
+unfolding byte_at record_arms written_arms old_arms boot_record_at promise_record_at update_record_at stage_record_at head_record_at view_record_at meta_record_at close_record_at install_record_at choice_record_at listed_record_at seal_record_at forget_record_at old_update_at old_stage_at old_head_at old_install_at old_choice_at
 record_again (kept.Boot boot) rest h = arm_again boot_field kept.Boot boot rest assumption
 record_again (kept.Promise file epoch) rest h = arm_again (both file_field epoch_field) (λ f. kept.Promise f.0 f.1) (file, epoch) rest assumption
 record_again (kept.Update file update) rest h = arm_again (both file_field update_field) (λ f. kept.Update f.0 f.1) (file, update) rest assumption
-record_again (kept.Stage file object version bytes) rest h = arm_again (both (both (both file_field word_field) stamp_field) body_field) (λ f. kept.Stage f.0.0.0 f.0.0.1 f.0.1 f.1) (((file, object), version), bytes) rest assumption
+record_again (kept.Stage file object version bytes) rest h = arm_again (both (both (both file_field long_field) stamp_field) body_field) (λ f. kept.Stage f.0.0.0 f.0.0.1 f.0.1 f.1) (((file, object), version), bytes) rest assumption
 record_again (kept.Head file head) rest h = arm_again (both file_field head_field) (λ f. kept.Head f.0 f.1) (file, head) rest assumption
 record_again (kept.View file location) rest h = arm_again (both file_field location_field) (λ f. kept.View f.0 f.1) (file, location) rest assumption
 record_again (kept.Meta from number now nodes request) rest h = arm_again (both (both (both (both node_field count_field) count_field) nodes_field) logged_field) (λ f. kept.Meta f.0.0.0.0 f.0.0.0.1 f.0.0.1 f.0.1 f.1) ((((from, number), now), nodes), request) rest ((((h.0, h.1), h.2), h.3), h.4)
+record_again (kept.Close file version) rest h = arm_again (both file_field version_field) (λ f. kept.Close f.0 f.1) (file, version) rest assumption
+record_again (kept.Install file location head) rest h = arm_again (both (both file_field location_field) head_field) (λ f. kept.Install f.0.0 f.0.1 f.1) ((file, location), head) rest assumption
+record_again (kept.Choice file location head source) rest h = arm_again (both (both (both file_field location_field) head_field) node_field) (λ f. kept.Choice f.0.0.0 f.0.0.1 f.0.1 f.1) (((file, location), head), source) rest assumption
+record_again (kept.Listed file version) rest h = arm_again (both file_field version_field) (λ f. kept.Listed f.0 f.1) (file, version) rest assumption
+record_again (kept.Seal file object version digest) rest h = arm_again (both (both (both file_field long_field) stamp_field) tag_field) (λ f. kept.Seal f.0.0.0 f.0.0.1 f.0.1 f.1) (((file, object), version), digest) rest assumption
+record_again (kept.Forget file) rest h = arm_again file_field kept.Forget file rest assumption
+record_again (kept.OldUpdate file update) rest h = arm_again (both file_field old.update_field) (λ f. kept.OldUpdate f.0 f.1) (file, update) rest assumption
+record_again (kept.OldStage file object version bytes) rest h = arm_again (both (both (both file_field word_field) stamp_field) body_field) (λ f. kept.OldStage f.0.0.0 f.0.0.1 f.0.1 f.1) (((file, object), version), bytes) rest assumption
+record_again (kept.OldHead file head) rest h = arm_again (both file_field old.head_field) (λ f. kept.OldHead f.0 f.1) (file, head) rest assumption
+record_again (kept.OldInstall file location head) rest h = arm_again (both (both file_field location_field) old.head_field) (λ f. kept.OldInstall f.0.0 f.0.1 f.1) ((file, location), head) rest assumption
+record_again (kept.OldChoice file location head source) rest h = arm_again (both (both (both file_field location_field) old.head_field) node_field) (λ f. kept.OldChoice f.0.0.0 f.0.0.1 f.0.1 f.1) (((file, location), head), source) rest assumption
+
+record_arms_take : AreArms record_text FitsRecord record_arms
+unfolding record_arms
+record_arms_take = record {
+  takes = λ kind given x all e.
+      elim (is_old kind) as (λ b. cond b (old_arms kind given) (written_arms kind given) ≡ Ok x → Taken (kind ∷ given) (record_text x.0) x.1 (FitsRecord x.0)) [
+        | true ↦ λ e. old_arms_take.takes kind given x all e
+        | false ↦ λ e. written_arms_take.takes kind given x all e
+      ] e;
+}
 
 pub record_field : IsField record_text FitsRecord record_at
 unfolding record_at

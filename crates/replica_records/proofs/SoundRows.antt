@@ -1,16 +1,19 @@
 -- what a folding knows of its rows, after a record
 use Rattle.std.proofs.Common.{◌↔◌, zero, suc, Bool, true, false, cond, IsTrue, List, [], ◌∷◌, Option, Some, None, refl, subst, arith}
 use Rattle.std.specs.List.{AllByRecursion, Contains}
-use Rattle.xt_messages.specs.Limits.{FitsHead}
+use Rattle.xt_base.specs.declared.ids.Epoch.{Epoch}
+use Rattle.xt_messages.specs.Limits.{FitsEpoch, FitsStamp, FitsOpId, FitsHead, IsObject, is_at_most}
 use Rattle.xt_base.specs.declared.ids.FileId.{FileId}
 use Rattle.xt_messages.specs.declared.file.FileHead.{FileHead}
+use Rattle.xt_messages.specs.declared.file.Update.{Update}
 use Rattle.xt_messages.specs.declared.record.FileRow.{FileRow}
 use Rattle.xt_messages.specs.declared.record.Record.{Record}
 use Rattle.xt_messages.specs.declared.record.Record.TheVariants as kept
 use Rattle.xt_protocol.specs.FileIds.{is_file, is_before}
-use Rattle.xt_protocol.specs.Folds.{row_in, with_row, new_row, row_after, file_of, rows_after}
+use Rattle.xt_protocol.specs.Folds.{row_in, with_row, without_row, new_row, row_after, file_of, forgets, rows_after}
+use Rattle.xt_protocol.specs.Heads.{later_epoch, head_installed, head_after}
 use Rattle.replica_records.specs.Sound.{FitsLists, FitsFold, IsSoundRow, AreSoundRows}
-use Rattle.xt_protocol.proofs.FileRows.{rise-with_row}
+use Rattle.xt_protocol.proofs.FileRows.{rise-with_row, each-without_row, rise-without_row}
 use Rattle.replica_records.proofs.AfterUpdate.{lists_after}
 
 pub new_sound : (within : Bool) (file : FileId) → IsSoundRow within (new_row file)
@@ -53,6 +56,25 @@ of_head head fits = record {
   rising = record { versions = fits.objects.rising; sessions = fits.clients.rising };
 }
 
+later_fits : (a b : Epoch) → FitsEpoch a → FitsEpoch b → FitsEpoch (later_epoch a b)
+later_fits a b first second = at (is_at_most a b)
+  where
+    at : (most : Bool) → FitsEpoch (cond most b a)
+    at true = second
+    at false = first
+
+update_sound : (row : FileRow) (update : Update) → FitsLists row.head → FitsStamp update.stamp × FitsOpId update.id × IsObject update.object
+    → FitsLists (head_after row.head update)
+update_sound row update sound facts = lists_after row.head update sound facts.0 facts.1 facts.2
+
+install_sound : (row : FileRow) (head : FileHead) → FitsLists row.head → FitsLists head → FitsLists (head_installed row.head head)
+install_sound row head own new = record {
+  promise = later_fits row.head.promised head.promised own.promise new.promise;
+  objects = new.objects;
+  clients = new.clients;
+  rising = record { versions = new.rising.versions; sessions = new.rising.sessions };
+}
+
 module _ (within after : Bool) (still : IsTrue after → IsTrue within) where
   weaker : (row : FileRow) → IsSoundRow within row → IsSoundRow after row
   weaker row sound ok = sound (still ok)
@@ -70,23 +92,37 @@ module _ (within after : Bool) (still : IsTrue after → IsTrue within) where
         clients = old.clients;
         rising = record { versions = old.rising.versions; sessions = old.rising.sessions };
       }
-  row_after_sound row (kept.Update file update) sound fit ok =
-      let facts = fit ok in lists_after row.head update (sound (still ok)) facts.0 facts.1 facts.2
-  row_after_sound row (kept.Stage file object version bytes) sound fit ok = sound (still ok)
+  row_after_sound row (kept.Update file update) sound fit ok = update_sound row update (sound (still ok)) (fit ok)
+  row_after_sound row (kept.OldUpdate file update) sound fit ok = update_sound row update (sound (still ok)) (fit ok)
   row_after_sound row (kept.Head file head) sound fit ok = of_head head (fit ok)
-  row_after_sound row (kept.View file location) sound fit ok = sound (still ok)
-  row_after_sound row (kept.Boot boot) sound fit ok = sound (still ok)
-  row_after_sound row (kept.Meta from number now nodes request) sound fit ok = sound (still ok)
+  row_after_sound row (kept.OldHead file head) sound fit ok = of_head head (fit ok)
+  row_after_sound row (kept.Install file location head) sound fit ok = install_sound row head (sound (still ok)) (of_head head (fit ok))
+  row_after_sound row (kept.OldInstall file location head) sound fit ok = install_sound row head (sound (still ok)) (of_head head (fit ok))
+  row_after_sound row (kept.Forget file) sound fit ok = new_sound after row.file ok
+  row_after_sound row _ sound fit ok = sound (still ok)
 
   of_file : (rows : List FileRow) (rec : Record) (file : Option FileId) → AreSoundRows within rows → (IsTrue after → FitsFold rec)
       → AreSoundRows after (rows_after rows rec file)
   of_file rows rec None sound fit = record { files = sound.files; each = each_weaker rows sound.each }
-  of_file rows rec (Some file) sound fit = record {
-    files = rise-with_row rows (row_after (row_in rows file) rec) sound.files;
-    each =
-        with_row_each (IsSoundRow after) rows (row_after (row_in rows file) rec) (each_weaker rows sound.each)
-        (row_after_sound (row_in rows file) rec (row_in_sound within rows file sound.each) fit);
-  }
+  of_file rows rec (Some file) sound fit = at (forgets rec)
+    where
+      put : AreSoundRows after (with_row rows (row_after (row_in rows file) rec))
+      put = record {
+        files = rise-with_row rows (row_after (row_in rows file) rec) sound.files;
+        each =
+            with_row_each (IsSoundRow after) rows (row_after (row_in rows file) rec) (each_weaker rows sound.each)
+            (row_after_sound (row_in rows file) rec (row_in_sound within rows file sound.each) fit);
+      }
+
+      out : AreSoundRows after (without_row rows file)
+      out = record {
+        files = rise-without_row rows file sound.files;
+        each = each-without_row (IsSoundRow after) rows file (each_weaker rows sound.each);
+      }
+
+      at : (gone : Bool) → AreSoundRows after (cond gone (without_row rows file) (with_row rows (row_after (row_in rows file) rec)))
+      at true = out
+      at false = put
 
 -- the rows after a record are sound, within the limits where all records were
 pub sound_after : (within after : Bool) (rows : List FileRow) (rec : Record) → (IsTrue after ↔ (IsTrue within × FitsFold rec)) → AreSoundRows within rows

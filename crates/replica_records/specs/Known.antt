@@ -3,17 +3,11 @@ use Rattle.std.specs.Prelude.{◌≡◌, Bool, true, false, List, length, map, r
 use Rattle.std.specs.List.{All}
 use Rattle.xt_messages.specs.Limits.{FitsRecord}
 use Rattle.xt_messages.specs.declared.record.Record.{Record}
-use Rattle.xt_messages.specs.declared.record.Record.TheVariants as kept
+use Rattle.replica_records.specs.Bare.{body_in, with_body}
 
 -- a record whose body's bytes aren't known, only their number: they are written as zeros
 abbrev pub without_body : Record → Record
-without_body (kept.Update file update) = kept.Update file (record update { body = replicate (length update.body) 0 })
-without_body (kept.Stage file object version bytes) = kept.Stage file object version (replicate (length bytes) 0)
-without_body (kept.Boot boot) = kept.Boot boot
-without_body (kept.Promise file epoch) = kept.Promise file epoch
-without_body (kept.Head file head) = kept.Head file head
-without_body (kept.View file location) = kept.View file location
-without_body (kept.Meta from number now nodes request) = kept.Meta from number now nodes request
+without_body rec = with_body (replicate (length (body_in rec)) 0) rec
 
 -- A record as contracts know it once it is on a disk: all of it, where the disk's contents are known; elsewhere all but its body's bytes.
 abbrev pub as_known : Bool → Record → Record

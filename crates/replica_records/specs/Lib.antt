@@ -1,6 +1,7 @@
 pub mod RowPlaces
 pub mod Sound
 pub mod RecordText
+pub mod OldFields
 pub mod RecordFields
 pub mod Places
 pub mod Known

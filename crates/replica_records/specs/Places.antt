@@ -1,10 +1,13 @@
 -- where the record stands that put a body last
+pub use Rattle.replica_records.specs.Bare.{body_in}
 use Rattle.std.specs.Prelude.{ℕ, ◌≡◌, ◌≢◌, ◌<◌, ◌==◌, if◌then◌else◌, Option, Some, None, List, [], length, slice_get, unwrap_or}
 use Rattle.std.specs.Option.{option_map}
 use Rattle.std.specs.Ordering.{ordering_then, nat_cmp}
 use Rattle.std.specs.declared.cmp.Ordering.{Ordering}
 use Rattle.std.specs.BTreeMap.{get}
 use Rattle.std.proofs.Props.{props}
+use Rattle.xt_base.specs.declared.ids.FileId.{FileId}
+use Rattle.xt_messages.specs.declared.file.Update.{Update}
 use Rattle.xt_messages.specs.declared.record.Record.{Record}
 use Rattle.xt_messages.specs.declared.record.Record.TheVariants as kept
 use Rattle.xt_base.specs.declared.TheConstants.{NO_OBJECT}
@@ -18,26 +21,18 @@ use Rattle.replica_records.specs.declared.places.Places.{Places}
 abbrev pub body_cmp : BodyKey → BodyKey → Ordering
 body_cmp a b = ordering_then (file_cmp a.file b.file) (ordering_then (nat_cmp a.object b.object) (stamp_cmp a.version b.version))
 
+-- which body an update makes, if it makes one
+abbrev pub key_made : FileId → Update → Option BodyKey
+key_made file update =
+    if update.object == NO_OBJECT then None else Some (record { file = file; object = update.object; version = update.stamp })
+
 -- which body a record puts, if it puts one
 abbrev pub key_put : Record → Option BodyKey
-key_put (kept.Update file update) =
-    if update.object == NO_OBJECT then None else Some (record { file = file; object = update.object; version = update.stamp })
+key_put (kept.Update file update) = key_made file update
 key_put (kept.Stage file object version bytes) = Some (record { file = file; object = object; version = version })
-key_put (kept.Boot boot) = None
-key_put (kept.Promise file epoch) = None
-key_put (kept.Head file head) = None
-key_put (kept.View file location) = None
-key_put (kept.Meta from number now nodes request) = None
-
--- the body that a record puts; empty where it puts none
-abbrev pub body_in : Record → List ℕ
-body_in (kept.Update file update) = update.body
-body_in (kept.Stage file object version bytes) = bytes
-body_in (kept.Boot boot) = []
-body_in (kept.Promise file epoch) = []
-body_in (kept.Head file head) = []
-body_in (kept.View file location) = []
-body_in (kept.Meta from number now nodes request) = []
+key_put (kept.OldUpdate file update) = key_made file update
+key_put (kept.OldStage file object version bytes) = Some (record { file = file; object = object; version = version })
+key_put _ = None
 
 -- the body that the record at a place puts
 abbrev pub body_at : List Record → ℕ → List ℕ

@@ -1,5 +1,5 @@
 -- the fields of each kind of record, read from the front of bytes
-use Rattle.std.specs.Prelude.{◌≡◌, ℕ, List, length, Option, Some, None, Result, Ok, Err, ◌==◌, nat_lt, if◌then◌else◌}
+use Rattle.std.specs.Prelude.{◌≡◌, ℕ, Bool, List, length, Option, Some, None, Result, Ok, Err, ◌==◌, ◌||◌, nat_lt, if◌then◌else◌}
 use Rattle.xt_base.specs.MemberList.{are_members}
 use Rattle.xt_base.specs.declared.TheConstants.{BODY}
 use Rattle.xt_base.specs.declared.ids.NodeId.{NodeId}
@@ -10,11 +10,12 @@ use Rattle.xt_messages.specs.declared.record.Record.TheVariants as kept
 use Rattle.xt_fields.specs.declared.fault.FieldErr.{FieldErr}
 use Rattle.xt_fields.specs.declared.fault.FieldErr.TheVariants as fault
 use Rattle.xt_fields.specs.Reading.{Field, ◌&◌, made, fit}
-use Rattle.xt_fields.specs.BasicFields.{word_at, count_at, octets_at, list_at, tagged}
+use Rattle.xt_fields.specs.BasicFields.{word_at, long_at, count_at, raw_at, octets_at, list_at, tagged}
 use Rattle.xt_wire.specs.IdFields.{node_at, boot_at, file_at, epoch_at, stamp_at}
-use Rattle.xt_wire.specs.FileFields.{location_at, update_at, head_at}
+use Rattle.xt_wire.specs.FileFields.{version_at, location_at, update_at, head_at}
 use Rattle.xt_wire.specs.MetaFields.{meta_req_at}
 use Rattle.xt_wire.specs.RegistryFields.{registry_req_at}
+use Rattle.replica_records.specs.OldFields as old
 use Rattle.replica_records.specs.declared.errors.RecordErr.{RecordErr}
 use Rattle.replica_records.specs.declared.errors.RecordErr.TheVariants as error
 
@@ -53,7 +54,7 @@ unfoldable pub update_record_at : Field Record
 update_record_at = made (λ f. kept.Update f.0 f.1) (file_at & update_at)
 
 unfoldable pub stage_record_at : Field Record
-stage_record_at = made (λ f. kept.Stage f.0.0.0 f.0.0.1 f.0.1 f.1) (file_at & word_at & stamp_at & octets_at BODY)
+stage_record_at = made (λ f. kept.Stage f.0.0.0 f.0.0.1 f.0.1 f.1) (file_at & long_at & stamp_at & octets_at BODY)
 
 unfoldable pub head_record_at : Field Record
 head_record_at = made (λ f. kept.Head f.0 f.1) (file_at & head_at)
@@ -64,16 +65,72 @@ view_record_at = made (λ f. kept.View f.0 f.1) (file_at & location_at)
 unfoldable pub meta_record_at : Field Record
 meta_record_at = made (λ f. kept.Meta f.0.0.0.0 f.0.0.0.1 f.0.0.1 f.0.1 f.1) (node_at & count_at & count_at & nodes_at & logged_at)
 
-unfoldable pub record_arms : ℕ → Field Record
-record_arms kind bytes =
+unfoldable pub close_record_at : Field Record
+close_record_at = made (λ f. kept.Close f.0 f.1) (file_at & version_at)
+
+unfoldable pub install_record_at : Field Record
+install_record_at = made (λ f. kept.Install f.0.0 f.0.1 f.1) (file_at & location_at & head_at)
+
+unfoldable pub choice_record_at : Field Record
+choice_record_at = made (λ f. kept.Choice f.0.0.0 f.0.0.1 f.0.1 f.1) (file_at & location_at & head_at & node_at)
+
+unfoldable pub listed_record_at : Field Record
+listed_record_at = made (λ f. kept.Listed f.0 f.1) (file_at & version_at)
+
+unfoldable pub seal_record_at : Field Record
+seal_record_at = made (λ f. kept.Seal f.0.0.0 f.0.0.1 f.0.1 f.1) (file_at & long_at & stamp_at & raw_at 32)
+
+unfoldable pub forget_record_at : Field Record
+forget_record_at = made kept.Forget file_at
+
+-- the kinds that are written
+unfoldable pub written_arms : ℕ → Field Record
+written_arms kind bytes =
     if kind == 1 then boot_record_at bytes
     else if kind == 2 then promise_record_at bytes
-    else if kind == 3 then update_record_at bytes
-    else if kind == 4 then stage_record_at bytes
-    else if kind == 5 then head_record_at bytes
     else if kind == 6 then view_record_at bytes
     else if kind == 7 then meta_record_at bytes
+    else if kind == 9 then close_record_at bytes
+    else if kind == 12 then listed_record_at bytes
+    else if kind == 13 then update_record_at bytes
+    else if kind == 14 then stage_record_at bytes
+    else if kind == 15 then head_record_at bytes
+    else if kind == 16 then install_record_at bytes
+    else if kind == 17 then choice_record_at bytes
+    else if kind == 18 then seal_record_at bytes
+    else if kind == 19 then forget_record_at bytes
     else Err fault.Unfit
+
+unfoldable pub old_update_at : Field Record
+old_update_at = made (λ f. kept.OldUpdate f.0 f.1) (file_at & old.update_at)
+
+unfoldable pub old_stage_at : Field Record
+old_stage_at = made (λ f. kept.OldStage f.0.0.0 f.0.0.1 f.0.1 f.1) (file_at & word_at & stamp_at & octets_at BODY)
+
+unfoldable pub old_head_at : Field Record
+old_head_at = made (λ f. kept.OldHead f.0 f.1) (file_at & old.head_at)
+
+unfoldable pub old_install_at : Field Record
+old_install_at = made (λ f. kept.OldInstall f.0.0 f.0.1 f.1) (file_at & location_at & old.head_at)
+
+unfoldable pub old_choice_at : Field Record
+old_choice_at = made (λ f. kept.OldChoice f.0.0.0 f.0.0.1 f.0.1 f.1) (file_at & location_at & old.head_at & node_at)
+
+-- the kinds that were written while objects had 32 bits, and that are read alone now
+unfoldable pub old_arms : ℕ → Field Record
+old_arms kind bytes =
+    if kind == 3 then old_update_at bytes
+    else if kind == 4 then old_stage_at bytes
+    else if kind == 5 then old_head_at bytes
+    else if kind == 10 then old_install_at bytes
+    else if kind == 11 then old_choice_at bytes
+    else Err fault.Unfit
+
+abbrev pub is_old : ℕ → Bool
+is_old kind = (kind == 3) || (kind == 4) || (kind == 5) || (kind == 10) || (kind == 11)
+
+unfoldable pub record_arms : ℕ → Field Record
+record_arms kind bytes = if is_old kind then old_arms kind bytes else written_arms kind bytes
 
 unfoldable pub record_at : Field Record
 record_at = tagged record_arms

@@ -1,5 +1,5 @@
 -- where a row stands or belongs in a list that rises by a key
-use Rattle.std.specs.Prelude.{ℕ, ◌==◌, if◌then◌else◌, ◌≡◌, ◌<◌, ◌≤◌, true, List, [], ◌∷◌, length, slice_set, slice_index_or, Result, Ok, Err}
+use Rattle.std.specs.Prelude.{ℕ, ◌==◌, ◌+◌, if◌then◌else◌, ◌≡◌, ◌<◌, ◌≤◌, true, List, [], ◌∷◌, ◌++◌, length, take, drop, slice_set, slice_index_or, Result, Ok, Err}
 use Rattle.std.specs.List.{insert, AllByRecursion}
 use Rattle.xt_base.specs.declared.ids.FileId.{FileId}
 use Rattle.xt_messages.specs.declared.file.ObjectVersion.{ObjectVersion}
@@ -9,7 +9,7 @@ use Rattle.xt_messages.specs.declared.record.FileRow.{FileRow}
 use Rattle.xt_base.specs.declared.TheConstants.{NO_OBJECT}
 use Rattle.xt_protocol.specs.FileIds.{is_before}
 use Rattle.xt_protocol.specs.Heads.{versions_below, with_version, with_session}
-use Rattle.xt_protocol.specs.Folds.{row_in, with_row, new_row}
+use Rattle.xt_protocol.specs.Folds.{row_in, with_row, without_row, new_row}
 
 -- the version of the object is there; or it belongs there
 abbrev pub IsVersionPlace : List ObjectVersion → ℕ → Result ℕ ℕ → Type 0
@@ -44,7 +44,9 @@ IsFilePlace rows file (Ok place) =
     (place < length rows)
     × ((d : FileRow) → row_in rows file ≡ slice_index_or rows place d)
     × ((row : FileRow) → row.file ≡ file → with_row rows row ≡ slice_set rows place row)
+    × (without_row rows file ≡ take place rows ++ drop (place + 1) rows)
 IsFilePlace rows file (Err place) =
     (place ≤ length rows)
     × (row_in rows file ≡ new_row file)
     × ((row : FileRow) → row.file ≡ file → with_row rows row ≡ insert rows place row)
+    × (without_row rows file ≡ rows)

@@ -1,7 +1,7 @@
 -- what a folding knows of its rows: their lists rise, and are within their limits where the records were
 use Rattle.std.specs.Prelude.{◌≤◌, Bool, List, length, IsTrue}
 use Rattle.std.specs.List.{AllByRecursion}
-use Rattle.xt_messages.specs.Limits.{FitsEpoch, FitsStamp, FitsOpId, FitsVersion, FitsSession, FitsHead, IsObjectOrNone}
+use Rattle.xt_messages.specs.Limits.{FitsEpoch, FitsStamp, FitsOpId, FitsVersion, FitsSession, FitsHead, IsObject}
 use Rattle.xt_messages.specs.declared.file.FileHead.{FileHead}
 use Rattle.xt_messages.specs.declared.record.FileRow.{FileRow}
 use Rattle.xt_messages.specs.declared.record.Record.{Record}
@@ -27,12 +27,13 @@ pub record FitsLists (head : FileHead) : Type 0 where
 -- a record leaves such a head of one
 abbrev pub FitsFold : Record → Type 0
 FitsFold (kept.Promise file epoch) = FitsEpoch epoch
-FitsFold (kept.Update file update) = FitsStamp update.stamp × FitsOpId update.id × IsObjectOrNone update.object
+FitsFold (kept.Update file update) = FitsStamp update.stamp × FitsOpId update.id × IsObject update.object
 FitsFold (kept.Head file head) = FitsHead head
-FitsFold (kept.Stage file object version bytes) = Unit {0}
-FitsFold (kept.View file location) = Unit {0}
-FitsFold (kept.Boot boot) = Unit {0}
-FitsFold (kept.Meta from number now nodes request) = Unit {0}
+FitsFold (kept.Install file location head) = FitsHead head
+FitsFold (kept.OldUpdate file update) = FitsStamp update.stamp × FitsOpId update.id × IsObject update.object
+FitsFold (kept.OldHead file head) = FitsHead head
+FitsFold (kept.OldInstall file location head) = FitsHead head
+FitsFold _ = Unit {0}
 
 -- the head is such a one where all records were within their limits
 abbrev pub IsSoundRow : Bool → FileRow → Type 0

@@ -1,8 +1,8 @@
 ghost use Rattle.std.specs.Prelude.{◌≡◌, ◌↔◌, IsTrue, IfOk, IfSome, OnOk, OnErr, MatchOption, Contains, None, Some};
 ghost use Rattle.std.specs.List.{All};
-ghost use Rattle.xt_protocol.specs.Heads.{head_after};
+ghost use Rattle.xt_protocol.specs.Heads.{later_epoch, head_installed, head_after};
 ghost use Rattle.xt_messages.specs.Limits.{FitsRecord, FitsUpdate, is_at_most};
-ghost use Rattle.xt_protocol.specs.Folds.{row_in, with_row, new_row, row_after, body_of, held_after, boot_after, rows_after, file_of, folded_after, nothing_kept, fold_of, FollowsHead, IsInPlace};
+ghost use Rattle.xt_protocol.specs.Folds.{row_in, with_row, without_row, forgets, new_row, row_after, body_of, held_after, boot_after, rows_after, file_of, folded_after, nothing_kept, fold_of, FollowsHead, IsInPlace};
 ghost use Rattle.replica_records.specs.RowPlaces.{FilesRise, IsFilePlace};
 ghost use Rattle.replica_records.specs.Sound.{FitsFold, IsSoundRow, AreSoundRows};
 
@@ -12,7 +12,9 @@ use object_versions::hold;
 use std::alloc::Global;
 use std::marker::Model;
 use xt_base::{Boot, Copies, Epoch, FileId, NO_OBJECT, OutOfMemory, Seq, Stamp};
-use xt_messages::{FileHead, FileRow, FileTable, Folded, HeldSet, ObjectVersion, Record, Update};
+use xt_messages::{
+    FileHead, FileRow, FileTable, Folded, HeldSet, Location, ObjectVersion, Record, Update,
+};
 use xt_wire::is_at_most;
 
 /// What records say, taken one by one. Contracts see what those so far say.
@@ -51,6 +53,7 @@ fn new_row(alloc: Global, file: FileId) -> FileRow
         head: new_head(alloc),
         held: HeldSet::new(alloc),
         location: None,
+        closed: None,
     }
 }
 
@@ -88,6 +91,38 @@ fn body_of(object: u64, version: Stamp) -> ObjectVersion
     ObjectVersion { object, version }
 }
 
+/// The greater of two epochs.
+fn later_epoch(first: Epoch, second: Epoch) -> Epoch
+    ensures { result ≡ later_epoch first second }
+{
+    if is_at_most(first, second) {
+        second
+    } else {
+        first
+    }
+}
+
+/// A later list, and the head with which it begins: what was promised stays promised. Where memory runs out, the row is as it was.
+fn install(
+    alloc: Global,
+    row: &mut FileRow,
+    location: Location,
+    head: &FileHead,
+) -> Result<(), OutOfMemory>
+    ensures ok { OnOk result (row.new ≡
+        record row.old {
+          head = head_installed row.old.head head.now;
+          location = Some location;
+        }) }
+    ensures err { OnErr result (row.new ≡ row.old) }
+{
+    let mut head = head.copy(alloc)?;
+    head.promised = later_epoch(row.head.promised, head.promised);
+    row.head = head;
+    row.location = Some(location);
+    Ok(())
+}
+
 /// What a record makes of the row of its file. Where memory runs out, the row is as it was.
 fn change_row(
     alloc: Global,
@@ -101,19 +136,34 @@ fn change_row(
 {
     match rec {
         Record::Promise { epoch, .. } => row.head.promised = *epoch,
-        Record::Update { update, .. } => {
+        Record::Update { update, .. } | Record::OldUpdate { update, .. } => {
             take_update(alloc, row, update, within)?;
         }
         Record::Stage {
             object,
             version,
             ..
+        }
+        | Record::OldStage {
+            object,
+            version,
+            ..
         } => {
             hold(&mut row.held, body_of(*object, *version))?;
         }
-        Record::Head { head, .. } => row.head = head.copy(alloc)?,
+        Record::Head { head, .. } | Record::OldHead { head, .. } => row.head = head.copy(alloc)?,
         Record::View { location, .. } => row.location = Some(*location),
-        Record::Boot { .. } | Record::Meta { .. } => {}
+        Record::Close { version, .. } => row.closed = Some(*version),
+        Record::Install { location, head, .. } | Record::OldInstall { location, head, .. } => {
+            install(alloc, row, *location, head)?;
+        }
+        Record::Boot { .. }
+        | Record::Meta { .. }
+        | Record::Choice { .. }
+        | Record::Listed { .. }
+        | Record::Seal { .. }
+        | Record::OldChoice { .. } => {}
+        Record::Forget { .. } => *row = new_row(alloc, row.file),
     }
     Ok(())
 }
@@ -142,6 +192,26 @@ fn change_rows(
     Ok(())
 }
 
+/// Removes the row of a file, if there is one.
+fn remove_row(rows: &mut FileTable, file: &FileId)
+    requires { FilesRise rows.old }
+    ensures { rows.new ≡ without_row rows.old file.now }
+{
+    if let Ok(place) = file_place(rows.as_slice(), file) {
+        rows.items.remove(place);
+    }
+}
+
+/// Whether a record removes its file.
+fn forgets(rec: &Record) -> bool
+    ensures { result ≡ forgets rec.now }
+{
+    match rec {
+        Record::Forget { .. } => true,
+        _ => false,
+    }
+}
+
 /// What a record makes of the rows. Where memory runs out, they are as they were.
 fn change_files(
     alloc: Global,
@@ -153,10 +223,14 @@ fn change_files(
     ensures after { OnOk result (rows.new ≡ rows_after rows.old rec.now (file_of rec.now)) }
     ensures err { OnErr result (rows.new ≡ rows.old) }
 {
-    match file_of(rec) {
-        Some(file) => change_rows(alloc, rows, file, rec, within),
-        None => Ok(()),
+    let Some(file) = file_of(rec) else {
+        return Ok(());
+    };
+    if forgets(rec) {
+        remove_row(rows, file);
+        return Ok(());
     }
+    change_rows(alloc, rows, file, rec, within)
 }
 
 /// Whether all records are within their limits with this one.
@@ -179,7 +253,7 @@ fn row_of<'a>(rows: &'a [FileRow], file: &FileId) -> Option<&'a FileRow>
     }
 }
 
-/// The file that a record is of, if any.
+/// The file whose row a record changes, if any.
 fn file_of(rec: &Record) -> Option<&FileId>
     ensures { MatchOption result (file_of rec.now ≡ None) (λ file. file_of rec.now ≡
         Some file.now) }
@@ -189,8 +263,20 @@ fn file_of(rec: &Record) -> Option<&FileId>
         | Record::Update { file, .. }
         | Record::Stage { file, .. }
         | Record::Head { file, .. }
-        | Record::View { file, .. } => Some(file),
-        Record::Boot { .. } | Record::Meta { .. } => None,
+        | Record::View { file, .. }
+        | Record::Close { file, .. }
+        | Record::Install { file, .. }
+        | Record::Forget { file }
+        | Record::OldUpdate { file, .. }
+        | Record::OldStage { file, .. }
+        | Record::OldHead { file, .. }
+        | Record::OldInstall { file, .. } => Some(file),
+        Record::Boot { .. }
+        | Record::Meta { .. }
+        | Record::Choice { .. }
+        | Record::Listed { .. }
+        | Record::Seal { .. }
+        | Record::OldChoice { .. } => None,
     }
 }
 
@@ -276,7 +362,11 @@ impl Folding {
         match rec {
             Record::Promise { file, epoch } => Ok(self.allows_promise(file, *epoch)),
             Record::Update { file, update } => self.allows_update(alloc, file, update),
+            Record::OldUpdate { file, update } => self.allows_update(alloc, file, update),
             Record::Head { file, head } => Ok(self.allows_head(file, head)),
+            Record::Install { file, head, .. } => Ok(self.allows_head(file, head)),
+            Record::OldHead { file, head } => Ok(self.allows_head(file, head)),
+            Record::OldInstall { file, head, .. } => Ok(self.allows_head(file, head)),
             _ => Ok(true),
         }
     }

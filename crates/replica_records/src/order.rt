@@ -1,6 +1,6 @@
 ghost use Rattle.std.specs.Prelude.{◌≡◌, ◌↔◌, ◌⊎◌, ◌+◌, IsTrue, IfOk, map, Contains};
 ghost use Rattle.std.specs.List.{All, AllByRecursion};
-ghost use Rattle.xt_messages.specs.Limits.{is_at_most, rise, FitsEpoch, FitsStamp, FitsOpId, FitsMark, FitsVersion, FitsSession, FitsVersions, FitsSessions, FitsHead, FitsUpdate, IsObjectOrNone};
+ghost use Rattle.xt_messages.specs.Limits.{is_at_most, rise, FitsEpoch, FitsStamp, FitsOpId, FitsMark, FitsVersion, FitsSession, FitsVersions, FitsSessions, FitsHead, FitsUpdate};
 ghost use Rattle.xt_protocol.specs.Heads.{first_epoch};
 ghost use Rattle.xt_protocol.specs.Folds.{FollowsHead};
 ghost use Rattle.object_versions.specs.Rising.{HeadRises};
@@ -9,7 +9,7 @@ ghost use Rattle.replica_records.specs.Sound.{FitsFold, FitsLists, HasRoomFor};
 use crate::head::{head_after, plain_stamp};
 use object_versions::{holds, sessions_after, versions_after};
 use std::alloc::Global;
-use xt_base::{CLIENTS, COUNTS, Epoch, NO_OBJECT, OBJECTS, OpId, OutOfMemory, SizeMark, Stamp};
+use xt_base::{CLIENTS, COUNTS, Epoch, OBJECTS, OpId, OutOfMemory, SizeMark, Stamp};
 use xt_messages::{FileHead, HeldSet, ObjectVersion, Record, Session, Update};
 use xt_wire::{clients_rise, is_at_most, objects_rise};
 
@@ -48,7 +48,8 @@ fn fits_mark(mark: SizeMark) -> bool
 fn fits_version(entry: ObjectVersion) -> bool
     ensures { IsTrue result ↔ FitsVersion entry }
 {
-    entry.object <= u64::from(u32::MAX) && fits_stamp(entry.version)
+    let _object = entry.object;
+    fits_stamp(entry.version)
 }
 
 /// Whether the last write of a client is within its limits.
@@ -57,13 +58,6 @@ fn fits_session(session: Session) -> bool
 {
     let _client = session.client.0;
     session.number < COUNTS && session.count < COUNTS
-}
-
-/// Whether a number is an object's, or stands for none.
-fn fits_object(object: u64) -> bool
-    ensures { IsTrue result ↔ IsObjectOrNone object }
-{
-    object < u64::from(u32::MAX) || object == NO_OBJECT
 }
 
 /// Whether each version is within its limits.
@@ -199,10 +193,14 @@ pub(crate) fn fits_fold(rec: &Record) -> bool
 {
     match rec {
         Record::Promise { epoch, .. } => fits_epoch(*epoch),
-        Record::Update { update, .. } => {
-            fits_stamp(update.stamp) && fits_op_id(update.id) && fits_object(update.object)
+        Record::Update { update, .. } | Record::OldUpdate { update, .. } => {
+            let _object = update.object;
+            fits_stamp(update.stamp) && fits_op_id(update.id)
         }
-        Record::Head { head, .. } => fits_head(head),
+        Record::Head { head, .. }
+        | Record::Install { head, .. }
+        | Record::OldHead { head, .. }
+        | Record::OldInstall { head, .. } => fits_head(head),
         _ => true,
     }
 }

@@ -25,7 +25,8 @@ pub fn record_bytes(alloc: Global, rec: &Record) -> Result<Octets, OutOfMemory>
 {
     let mut writer = FieldWriter::with_capacity(alloc, ROOM)?;
     put_record(&mut writer, rec)?;
-    Ok(writer.finish())
+    let made = writer.finish()?;
+    Ok(made)
 }
 
 /// The record that these bytes are, all of them.

@@ -6,7 +6,7 @@ ghost use Rattle.replica_records.specs.Places.{body_in};
 use std::alloc::Global;
 use std::collections::BTreeMap;
 use xt_base::{FileId, NO_OBJECT, OutOfMemory, Stamp};
-use xt_messages::Record;
+use xt_messages::{Record, Update};
 
 /// Which version of which object of which file.
 #[derive(Clone, Copy, PartialEq, Eq, PartialOrd, Ord)]
@@ -27,28 +27,45 @@ pub fn body_in(rec: &Record) -> &[u8]
     ensures { result.now ≡ body_in rec.now }
 {
     match rec {
-        Record::Update { update, .. } => update.body.as_slice(),
-        Record::Stage { bytes, .. } => bytes.as_slice(),
+        Record::Update { update, .. } | Record::OldUpdate { update, .. } => update.body.as_slice(),
+        Record::Stage { bytes, .. } | Record::OldStage { bytes, .. } => bytes.as_slice(),
         _ => &[],
     }
 }
 
 impl BodyKey {
     ghost use Rattle.std.specs.Prelude.{◌≡◌};
-    ghost use Rattle.replica_records.specs.Places.{key_put};
+    ghost use Rattle.replica_records.specs.Places.{key_made, key_put};
+
+    /// Which body the update makes, if it makes one.
+    fn of_update(file: &FileId, update: &Update) -> Option<BodyKey>
+        ensures { result ≡ key_made file.now update.now }
+    {
+        if update.object == NO_OBJECT {
+            return None;
+        }
+        Some(BodyKey {
+            file: *file,
+            object: update.object,
+            version: update.stamp,
+        })
+    }
 
     /// Which body the record puts, if it puts one.
     pub fn of(rec: &Record) -> Option<BodyKey>
         ensures { result ≡ key_put rec.now }
     {
         match rec {
-            Record::Update { update, .. } if update.object == NO_OBJECT => None,
-            Record::Update { file, update } => Some(BodyKey {
-                file: *file,
-                object: update.object,
-                version: update.stamp,
-            }),
+            Record::Update { file, update } | Record::OldUpdate { file, update } => {
+                BodyKey::of_update(file, update)
+            }
             Record::Stage {
+                file,
+                object,
+                version,
+                ..
+            }
+            | Record::OldStage {
                 file,
                 object,
                 version,

@@ -2,8 +2,9 @@ ghost use Rattle.std.specs.Prelude.{◌≡◌, ◌≤◌, take, IfOk, IfErr, Ok}
 ghost use Rattle.xt_fields.specs.Reading.{Gives, Fails};
 ghost use Rattle.xt_fields.specs.BasicFields.{list_at};
 ghost use Rattle.xt_wire.specs.IdFields.{node_at};
-ghost use Rattle.replica_records.specs.RecordFields.{nodes_at, logged_at, meta_logged_at, registry_logged_at, record_at, boot_record_at, promise_record_at, update_record_at, stage_record_at, head_record_at, view_record_at, meta_record_at};
+ghost use Rattle.replica_records.specs.RecordFields.{nodes_at, logged_at, meta_logged_at, registry_logged_at, record_at, boot_record_at, promise_record_at, update_record_at, stage_record_at, head_record_at, view_record_at, meta_record_at, close_record_at, install_record_at, choice_record_at, listed_record_at, seal_record_at, forget_record_at, written_arms, is_old};
 
+use crate::old::old_record;
 use std::alloc::Global;
 use xt_base::{BODY, Members, NodeId};
 use xt_messages::{Logged, Record};
@@ -12,19 +13,45 @@ use xt_wire::{FieldErr, FieldReader, ReadFiles, ReadIds, ReadRequests};
 /// The longest `bytes` field, in bytes.
 const BODY_LIMIT: u32 = BODY as u32;
 
+/// Whether records of this kind are read alone, and no longer written.
+fn is_old(kind: u8) -> bool
+    ensures { result ≡ is_old kind }
+{
+    kind == 3 || kind == 4 || kind == 5 || kind == 10 || kind == 11
+}
+
 /// A record.
 #[tactic(auto, unfolding(crate::specs::RecordFields::record_at, crate::specs::RecordFields::record_arms))]
 pub(crate) fn record_at(reader: &mut FieldReader<'_>, alloc: Global) -> Result<Record, FieldErr>
     ensures { Gives result reader.new (record_at reader.old) }
 {
-    match reader.byte()? {
+    let kind = reader.byte()?;
+    if is_old(kind) {
+        old_record(reader, alloc, kind)
+    } else {
+        written_record(reader, alloc, kind)
+    }
+}
+
+/// A record of a kind that is written.
+#[tactic(auto, unfolding(crate::specs::RecordFields::written_arms))]
+fn written_record(reader: &mut FieldReader<'_>, alloc: Global, kind: u8) -> Result<Record, FieldErr>
+    ensures { Gives result reader.new (written_arms kind reader.old) }
+{
+    match kind {
         1 => boot_record(reader),
         2 => promise_record(reader),
-        3 => update_record(reader, alloc),
-        4 => stage_record(reader, alloc),
-        5 => head_record(reader, alloc),
         6 => view_record(reader),
         7 => meta_record(reader, alloc),
+        9 => close_record(reader),
+        12 => listed_record(reader),
+        13 => update_record(reader, alloc),
+        14 => stage_record(reader, alloc),
+        15 => head_record(reader, alloc),
+        16 => install_record(reader, alloc),
+        17 => choice_record(reader, alloc),
+        18 => seal_record(reader),
+        19 => forget_record(reader),
         _ => Err(FieldErr::Unfit),
     }
 }
@@ -112,6 +139,84 @@ fn meta_record(reader: &mut FieldReader<'_>, alloc: Global) -> Result<Record, Fi
         nodes,
         request,
     })
+}
+
+/// A version of a list that is closed.
+#[tactic(auto, unfolding(crate::specs::RecordFields::close_record_at))]
+fn close_record(reader: &mut FieldReader<'_>) -> Result<Record, FieldErr>
+    ensures { Gives result reader.new (close_record_at reader.old) }
+{
+    let file = reader.file()?;
+    let version = reader.version()?;
+    Ok(Record::Close { file, version })
+}
+
+/// A list that is taken.
+#[tactic(auto, unfolding(crate::specs::RecordFields::install_record_at))]
+fn install_record(reader: &mut FieldReader<'_>, alloc: Global) -> Result<Record, FieldErr>
+    ensures { Gives result reader.new (install_record_at reader.old) }
+{
+    let file = reader.file()?;
+    let location = reader.location()?;
+    let head = reader.head(alloc)?;
+    Ok(Record::Install {
+        file,
+        location,
+        head,
+    })
+}
+
+/// The choice for a change.
+#[tactic(auto, unfolding(crate::specs::RecordFields::choice_record_at))]
+fn choice_record(reader: &mut FieldReader<'_>, alloc: Global) -> Result<Record, FieldErr>
+    ensures { Gives result reader.new (choice_record_at reader.old) }
+{
+    let file = reader.file()?;
+    let location = reader.location()?;
+    let head = reader.head(alloc)?;
+    let source = reader.node()?;
+    Ok(Record::Choice {
+        file,
+        location,
+        head,
+        source,
+    })
+}
+
+/// The end of a change.
+#[tactic(auto, unfolding(crate::specs::RecordFields::listed_record_at))]
+fn listed_record(reader: &mut FieldReader<'_>) -> Result<Record, FieldErr>
+    ensures { Gives result reader.new (listed_record_at reader.old) }
+{
+    let file = reader.file()?;
+    let version = reader.version()?;
+    Ok(Record::Listed { file, version })
+}
+
+/// The digest of a body.
+#[tactic(auto, unfolding(crate::specs::RecordFields::seal_record_at))]
+fn seal_record(reader: &mut FieldReader<'_>) -> Result<Record, FieldErr>
+    ensures { Gives result reader.new (seal_record_at reader.old) }
+{
+    let file = reader.file()?;
+    let object = reader.object()?;
+    let version = reader.stamp()?;
+    let digest = reader.tag()?;
+    Ok(Record::Seal {
+        file,
+        object,
+        version,
+        digest,
+    })
+}
+
+/// A file that is removed.
+#[tactic(auto, unfolding(crate::specs::RecordFields::forget_record_at))]
+fn forget_record(reader: &mut FieldReader<'_>) -> Result<Record, FieldErr>
+    ensures { Gives result reader.new (forget_record_at reader.old) }
+{
+    let file = reader.file()?;
+    Ok(Record::Forget { file })
 }
 
 /// So many nodes, at most nine, in the first places.

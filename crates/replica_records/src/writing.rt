@@ -1,5 +1,5 @@
 ghost use Rattle.std.specs.Prelude.{◌≡◌, ◌<◌, ◌^◌, ◌++◌, length, OnOk};
-ghost use Rattle.xt_messages.specs.Limits.{IsObject, FitsHead, FitsUpdate, FitsMetaReq, FitsRegistryReq, FitsLogged, FitsRecord};
+ghost use Rattle.xt_messages.specs.Limits.{FitsHead, FitsUpdate, FitsMetaReq, FitsRegistryReq, FitsLogged, FitsRecord};
 ghost use Rattle.xt_fields.specs.BasicFields.{byte_bytes, word_bytes, long_bytes, octets_bytes};
 ghost use Rattle.xt_wire.specs.IdFields.{node_bytes, boot_bytes, file_bytes, epoch_bytes, stamp_bytes};
 ghost use Rattle.xt_wire.specs.FileFields.{location_bytes, update_bytes, head_bytes};
@@ -7,6 +7,9 @@ ghost use Rattle.xt_wire.specs.MetaFields.{meta_req_bytes};
 ghost use Rattle.xt_wire.specs.RegistryFields.{registry_req_bytes};
 ghost use Rattle.replica_records.specs.RecordText.{nodes_bytes, logged_bytes, record_text};
 
+use crate::old_writing::{
+    put_old_choice, put_old_head, put_old_install, put_old_stage, put_old_update,
+};
 use xt_base::{Boot, Epoch, FileId, Members, NodeId, OutOfMemory, Stamp};
 use xt_messages::{FileHead, Location, Logged, MetaReq, Record, RegistryReq, Update};
 use xt_wire::{FieldWriter, WriteFiles, WriteIds, WriteRequests};
@@ -35,6 +38,45 @@ pub(crate) fn put_record(writer: &mut FieldWriter, rec: &Record) -> Result<(), O
             nodes,
             request,
         } => put_meta(writer, *from, *number, *now, *nodes, request),
+        Record::Close { file, version } => put_version(writer, 9, *file, *version),
+        Record::Install {
+            file,
+            location,
+            head,
+        } => put_install(writer, *file, *location, head),
+        Record::Choice {
+            file,
+            location,
+            head,
+            source,
+        } => put_choice(writer, *file, *location, head, *source),
+        Record::Listed { file, version } => put_version(writer, 12, *file, *version),
+        Record::Seal {
+            file,
+            object,
+            version,
+            digest,
+        } => put_seal(writer, *file, *object, *version, *digest),
+        Record::Forget { file } => put_forget(writer, *file),
+        Record::OldUpdate { file, update } => put_old_update(writer, *file, update),
+        Record::OldStage {
+            file,
+            object,
+            version,
+            bytes,
+        } => put_old_stage(writer, *file, *object, *version, bytes.as_slice()),
+        Record::OldHead { file, head } => put_old_head(writer, *file, head),
+        Record::OldInstall {
+            file,
+            location,
+            head,
+        } => put_old_install(writer, *file, *location, head),
+        Record::OldChoice {
+            file,
+            location,
+            head,
+            source,
+        } => put_old_choice(writer, *file, *location, head, *source),
     }
 }
 
@@ -60,9 +102,9 @@ fn put_promise(writer: &mut FieldWriter, file: FileId, epoch: Epoch) -> Result<(
 fn put_update(writer: &mut FieldWriter, file: FileId, update: &Update) -> Result<(), OutOfMemory>
     requires { FitsUpdate update.now }
     ensures { OnOk result (writer.new ≡ writer.old
-        ++ (byte_bytes 3 ++ (file_bytes file ++ update_bytes update.now))) }
+        ++ (byte_bytes 13 ++ (file_bytes file ++ update_bytes update.now))) }
 {
-    writer.byte(3)?;
+    writer.byte(13)?;
     writer.file(file)?;
     writer.update(update)
 }
@@ -75,14 +117,13 @@ fn put_stage(
     version: Stamp,
     bytes: &[u8],
 ) -> Result<(), OutOfMemory>
-    requires object_fits { IsObject object }
-    requires bytes_fits { length bytes.now < 2 ^ 32 }
+    requires { length bytes.now < 2 ^ 32 }
     ensures { OnOk result (writer.new ≡ writer.old
-        ++ (byte_bytes 4
-        ++ (file_bytes file ++ word_bytes object ++ stamp_bytes version
+        ++ (byte_bytes 14
+        ++ (file_bytes file ++ long_bytes object ++ stamp_bytes version
         ++ octets_bytes bytes.now))) }
 {
-    writer.byte(4)?;
+    writer.byte(14)?;
     writer.file(file)?;
     writer.object(object)?;
     writer.stamp(version)?;
@@ -93,9 +134,9 @@ fn put_stage(
 fn put_head(writer: &mut FieldWriter, file: FileId, head: &FileHead) -> Result<(), OutOfMemory>
     requires { FitsHead head.now }
     ensures { OnOk result (writer.new ≡ writer.old
-        ++ (byte_bytes 5 ++ (file_bytes file ++ head_bytes head.now))) }
+        ++ (byte_bytes 15 ++ (file_bytes file ++ head_bytes head.now))) }
 {
-    writer.byte(5)?;
+    writer.byte(15)?;
     writer.file(file)?;
     writer.head(head)
 }
@@ -131,6 +172,98 @@ fn put_meta(
     writer.long(now)?;
     put_nodes(writer, nodes)?;
     put_logged(writer, request)
+}
+
+/// A file and the version of its list, under this kind.
+fn put_version(
+    writer: &mut FieldWriter,
+    kind: u8,
+    file: FileId,
+    version: u32,
+) -> Result<(), OutOfMemory>
+    ensures { OnOk result (writer.new ≡ writer.old
+        ++ (byte_bytes kind ++ (file_bytes file ++ word_bytes version))) }
+{
+    writer.byte(kind)?;
+    writer.file(file)?;
+    writer.word(version)
+}
+
+/// A file, its list and the head with which that begins.
+fn put_list(
+    writer: &mut FieldWriter,
+    file: FileId,
+    location: Location,
+    head: &FileHead,
+) -> Result<(), OutOfMemory>
+    requires { FitsHead head.now }
+    ensures { OnOk result (writer.new ≡ writer.old
+        ++ (file_bytes file ++ location_bytes location ++ head_bytes head.now)) }
+{
+    writer.file(file)?;
+    writer.location(location)?;
+    writer.head(head)
+}
+
+/// A list that is taken.
+fn put_install(
+    writer: &mut FieldWriter,
+    file: FileId,
+    location: Location,
+    head: &FileHead,
+) -> Result<(), OutOfMemory>
+    requires { FitsHead head.now }
+    ensures { OnOk result (writer.new ≡ writer.old
+        ++ (byte_bytes 16 ++ (file_bytes file ++ location_bytes location ++ head_bytes head.now))) }
+{
+    writer.byte(16)?;
+    put_list(writer, file, location, head)
+}
+
+/// The choice for a change.
+fn put_choice(
+    writer: &mut FieldWriter,
+    file: FileId,
+    location: Location,
+    head: &FileHead,
+    source: NodeId,
+) -> Result<(), OutOfMemory>
+    requires { FitsHead head.now }
+    ensures { OnOk result (writer.new ≡ writer.old
+        ++ (byte_bytes 17
+        ++ (file_bytes file ++ location_bytes location ++ head_bytes head.now
+        ++ node_bytes source))) }
+{
+    writer.byte(17)?;
+    put_list(writer, file, location, head)?;
+    writer.node(source)
+}
+
+/// The digest of a body.
+fn put_seal(
+    writer: &mut FieldWriter,
+    file: FileId,
+    object: u64,
+    version: Stamp,
+    digest: [u8; 32],
+) -> Result<(), OutOfMemory>
+    ensures { OnOk result (writer.new ≡ writer.old
+        ++ (byte_bytes 18
+        ++ (file_bytes file ++ long_bytes object ++ stamp_bytes version ++ digest))) }
+{
+    writer.byte(18)?;
+    writer.file(file)?;
+    writer.object(object)?;
+    writer.stamp(version)?;
+    writer.tag(digest)
+}
+
+/// A file that is removed.
+fn put_forget(writer: &mut FieldWriter, file: FileId) -> Result<(), OutOfMemory>
+    ensures { OnOk result (writer.new ≡ writer.old ++ (byte_bytes 19 ++ file_bytes file)) }
+{
+    writer.byte(19)?;
+    writer.file(file)
 }
 
 /// The nodes that were picked from, or that there were none.

@@ -1,6 +1,6 @@
 -- What a history says of a primary and of a message, and that it goes on to say so.
-use Rattle.std.proofs.Common.{◌≡◌, ℕ, suc, ◌≤◌, ◌⊎◌, true, false, List, [], ◌∷◌, ◌++◌, length, refl, sym, ap, ◌∙◌, subst, inl, inr, arith, append_assoc, append-nil, if◌then◌else◌, Option, Some, None}
-use Rattle.xt_protocol.specs.Stamps.{is_earlier}
+use Rattle.std.proofs.Common.{◌≡◌, ℕ, suc, ◌≤◌, ◌<◌, ◌⊎◌, true, false, List, [], ◌∷◌, ◌++◌, length, refl, sym, ap, ◌∙◌, subst, inl, inr, arith, append_assoc, append-nil, if◌then◌else◌, Option, Some, None}
+use Rattle.std.specs.Prelude.{map}
 use Rattle.replica_safety.specs.Epochs.{Epoch, Stamp, Write}
 use Rattle.replica_safety.specs.Lists.{Has}
 use Rattle.replica_safety.specs.Protocol.{Reported, Acknowledged, State, writes_of, Move, Draw, Report, Choose, Acknowledge, Issue, after}
@@ -125,15 +125,18 @@ pub record AckFits (s : State) (r : ℕ) (t : Stamp) : Type 0 where
 
 -- an update: this version took it over, or it was issued in a later epoch
 abbrev pub IsKnown : Start → State → Write → Type 0
-IsKnown start s u = Has u (start.line ++ start.open_writes) ⊎ (UpdateFits s u × (is_earlier start.epoch u.stamp.epoch ≡ true))
+IsKnown start s u = Has u (start.line ++ start.open_writes) ⊎ (UpdateFits s u × (start.floor < u.stamp.epoch.number))
 
--- a body: it is that of a known update
-pub record BodyFits (start : Start) (s : State) (b : Body) : Type 0 where
+-- a body: it is that of a known update, or one of a write before this version
+pub record IsBodyOfKnown (start : Start) (s : State) (b : Body) : Type 0 where
   pub update : Write
   pub fits : IsKnown start s update
   pub is_object : update.object ≡ b.object
   pub is_version : update.stamp ≡ b.version
   pub is_bytes : update.body ≡ b.bytes
+
+abbrev pub BodyFits : Start → State → Body → Type 0
+BodyFits start s b = IsBodyOfKnown start s b ⊎ Has b start.old
 
 abbrev pub Justified : Start → State → Message → Type 0
 Justified start s (Gather e) = s.drawn e ≡ true
@@ -242,7 +245,8 @@ known_grows start s s2 g w (inl h) = inl h
 known_grows start s s2 g w (inr h) = inr (update_grows s s2 g w h.0, h.1)
 
 pub body_grows : (start : Start) (s s2 : State) → Grows s s2 → (b : Body) → BodyFits start s b → BodyFits start s2 b
-body_grows start s s2 g b j = record { update = j.update; fits = known_grows start s s2 g j.update j.fits; is_object = j.is_object; is_version = j.is_version; is_bytes = j.is_bytes }
+body_grows start s s2 g b (inr h) = inr h
+body_grows start s s2 g b (inl j) = inl (record { update = j.update; fits = known_grows start s s2 g j.update j.fits; is_object = j.is_object; is_version = j.is_version; is_bytes = j.is_bytes })
 
 pub justified_grows : (start : Start) (s s2 : State) → Grows s s2 → (m : Message) → Justified start s m → Justified start s2 m
 justified_grows start s s2 g (Gather e) j = g.drawn e j
@@ -267,15 +271,24 @@ one_update s u v f g same = same_place f.before g.before u v f.later g.later (f.
 
 -- what is known at the start is apart from what was issued since
 pub record Apart (start : Start) : Type 0 where
-  pub older : (u : Write) → Has u (start.line ++ start.open_writes) → is_earlier start.epoch u.stamp.epoch ≡ false
+  pub older : (u : Write) → Has u (start.line ++ start.open_writes) → u.stamp.epoch.number ≤ start.floor
   pub apart : (u v : Write) → Has u (start.line ++ start.open_writes) → Has v (start.line ++ start.open_writes) → u.stamp ≡ v.stamp → u ≡ v
+  pub old_older : (b : Body) → Has b start.old → b.version.epoch.number ≤ start.floor
+  pub old_right : (b : Body) (u : Write) → Has b start.old → Has u (start.line ++ start.open_writes) → u.stamp ≡ b.version → u.body ≡ b.bytes
 
 pub one_known : (start : Start) (s : State) (u v : Write) → Apart start → IsKnown start s u → IsKnown start s v → u.stamp ≡ v.stamp → u ≡ v
 one_known start s u v a (inl h) (inl k) same = a.apart u v h k same
-one_known start s u v a (inl h) (inr k) same = true_false k.1 (subst (λ (t : Stamp). is_earlier start.epoch t.epoch ≡ false) same (a.older u h))
-one_known start s u v a (inr h) (inl k) same = true_false h.1 (subst (λ (t : Stamp). is_earlier start.epoch t.epoch ≡ false) (sym same) (a.older v k))
+one_known start s u v a (inl h) (inr k) same = absurd (omega (arith, a.older u h, k.1, ap (λ (t : Stamp). t.epoch.number) same))
+one_known start s u v a (inr h) (inl k) same = absurd (omega (arith, a.older v k, h.1, ap (λ (t : Stamp). t.epoch.number) same))
 one_known start s u v a (inr h) (inr k) same = one_update s u v h.0 k.0 same
 
--- and so one version of an object has one body, wherever it is held or sent
-pub one_body : (start : Start) (s : State) (b c : Body) → Apart start → BodyFits start s b → BodyFits start s c → b.version ≡ c.version → b.bytes ≡ c.bytes
-one_body start s b c a f g same = sym f.is_bytes ∙ ap (λ (u : Write). u.body) (one_known start s f.update g.update a f.fits g.fits (f.is_version ∙ same ∙ sym g.is_version)) ∙ g.is_bytes
+-- what is there at a start: bodies of writes before
+pub old_pieces : (start : Start) (s : State) (bs : List Body) → ((b : Body) → Has b bs → Has b start.old) → (m : Message) → Has m (map Piece bs) → Justified start s m
+old_pieces start s [] all m h = absurd h
+old_pieces start s (b ∷ bs) all m (inl p) = subst (Justified start s) (sym p) (inr (all b (inl refl)))
+old_pieces start s (b ∷ bs) all m (inr h) = old_pieces start s bs (λ c k. all c (inr k)) m h
+
+pub no_updates : (bs : List Body) (v : Write) → Has (Update v) (map Piece bs) → ⊥
+no_updates [] v h = h
+no_updates (b ∷ bs) v (inl p) = cc
+no_updates (b ∷ bs) v (inr h) = no_updates bs v h

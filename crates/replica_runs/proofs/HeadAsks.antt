@@ -38,7 +38,7 @@ pub record Reads (body : ℕ → Stamp → List ℕ) (ws : List Update) : Type 0
   pub right : (o : ℕ) (v : Stamp) → o < NO_OBJECT → version_of (versions_of ws) o ≡ Some v → body o v ≡ bodies_of ws o
 
 present : (body : ℕ → Stamp → List ℕ) (ws : List Update) (o : ℕ) → o < NO_OBJECT → Reads body ws → present_body body (version_of (versions_of ws) o) o ≡ bodies_of ws o
-present body ws o low reads = at (version_of (versions_of ws) o) refl (versions_named ws o low)
+present body ws o low reads = at (version_of (versions_of ws) o) refl (versions_named ws o (λ e. absurd (omega (arith, low, e))))
   where
     at : (v : Option Stamp) → version_of (versions_of ws) o ≡ v → IsNamed ws (bodies_of ws) o v → present_body body v o ≡ bodies_of ws o
     at None e n = sym n

@@ -51,7 +51,7 @@ told_names count w ws = subst (λ k. (if count == suc k then map name ws ++ name
     (by_test (λ b. (if b then map name ws ++ name w ∷ [] else map name ws) ≡ map name (if b then ws ++ w ∷ [] else ws)) (count == suc (length ws)) (λ _. sym (map-append name ws (w ∷ []))) (λ _. refl))
 
 -- the order that the entries report is that of the marks
-order_marks : (start : Start) (ms : List Mark) → order_of (order_at start) (map entry_of ms) ≡ map name (line_at start ms)
+pub order_marks : (start : Start) (ms : List Mark) → order_of (order_at start) (map entry_of ms) ≡ map name (line_at start ms)
 order_marks start [] = refl
 order_marks start (Told n (Activated count w) ∷ ms) = ap (order_told count (name w)) (order_marks start ms) ∙ told_names count w (line_at start ms)
 order_marks start (Told n (Issued count w) ∷ ms) = order_marks start ms
@@ -64,7 +64,7 @@ fits_one ws order count w same f = (ap length same ∙ length-names ws ∙ f.0, 
 
 -- ---- what had been issued
 
-has_name : (ws : List Update) (id : ℕ × ℕ) → Has id (map name ws) → (w : Update) × Has w ws × (id ≡ name w)
+pub has_name : (ws : List Update) (id : ℕ × ℕ) → Has id (map name ws) → (w : Update) × Has w ws × (id ≡ name w)
 has_name [] id h = absurd h
 has_name (w ∷ ws) id (inl p) = (w, inl refl, p)
 has_name (w ∷ ws) id (inr h) = let more = has_name ws id h in (more.0, inr more.1, more.2)
@@ -82,7 +82,7 @@ report_issue (ShowsRead n ws o body ∷ ms) place w h = let more = report_issue 
 report_issue (ShowsWrite n at id ∷ ms) place w h = let more = report_issue ms place w h in (more.0, more.1, inr more.2)
 
 module _ (start : Start) where
-  was_issued : (ms : List Mark) (id : ℕ × ℕ) (w : Update) → id ≡ name w → WasIssued start (acts_of ms) w → Has id (known_at start) ⊎ IsIssued (map entry_of ms) id
+  pub was_issued : (ms : List Mark) (id : ℕ × ℕ) (w : Update) → id ≡ name w → WasIssued start (acts_of ms) w → Has id (known_at start) ⊎ IsIssued (map entry_of ms) id
   was_issued ms id w is (inl h) = inl (subst (λ k. Has k (known_at start)) (sym is) (name_has (start.line ++ start.open_writes) w h))
   was_issued ms id w is (inr h) = inr (subst (IsIssued (map entry_of ms)) (sym is) (report_issue ms h.0 w h.1))
 

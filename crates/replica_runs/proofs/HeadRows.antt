@@ -126,7 +126,7 @@ module _ (stripe : ℕ) (ops : ℕ × ℕ → Op) (members : List ℕ) (start : 
         promises above = record {
           world = v2;
           good = go v1 (step.SendsStatus n e) (record { asked = asked; promised = ap (λ (z : world.Node). z.promised) (at_own v.nodes n y1) })
-              (go v (step.Promises n e) (record { asked = asked; above = subst (λ d. is_earlier d e ≡ true) same_promise above }) good);
+              (go v (step.Promises n e) (record { above = subst (λ d. is_earlier d e ≡ true) same_promise above }) good);
           stand = moved w v v2 n (with_acted n (local w n) (after_record (kept.Promise x.kept.file e) (payload.Status x.kept.file e (record own { promised = e })))) y1 (v.held n)
               (λ r. refl) (λ r. ap (λ f. f r) (unchanged v.held n)) s.holder
               (record { head = told; bodies = with_bodies; primary = (s.nodes n).primary })

@@ -1,22 +1,25 @@
 -- Every run of a world of heads is a run of a world of writes.
-use Rattle.std.proofs.Common.{◌≡◌, ℕ, suc, ◌+◌, ◌<◌, ◌≤◌, ◌⊎◌, Bool, true, false, List, [], ◌∷◌, length, refl, sym, ap, ap₂, ◌∙◌, subst, inl, inr, arith, if◌then◌else◌, ◌==◌, Option, Some, None}
+use Rattle.std.proofs.Common.{◌≡◌, ◌≢◌, ℕ, suc, ◌+◌, ◌<◌, ◌≤◌, ◌⊎◌, Bool, true, false, List, [], ◌∷◌, length, refl, sym, ap, ap₂, ◌∙◌, subst, inl, inr, arith, if◌then◌else◌, ◌==◌, Option, Some, None}
 use Rattle.std.specs.Prelude.{slice_get, map, max, cond, filter}
+use Rattle.std.proofs.lemmas.Bool.{cases_eq}
 use Rattle.std.proofs.lemmas.Bool.Decides.{nat_tests}
-use Rattle.xt_base.specs.declared.TheConstants.{NO_OBJECT}
+use Rattle.xt_base.specs.declared.TheConstants.{NO_OBJECT, OBJECTS}
 use Rattle.xt_base.specs.declared.ids.Epoch.{Epoch}
 use Rattle.xt_base.specs.declared.ids.OpId.{OpId}
 use Rattle.xt_base.specs.declared.ids.Stamp.{Stamp}
+use Rattle.xt_messages.specs.Limits.{IsObject}
 use Rattle.xt_messages.specs.declared.file.FileHead.{FileHead}
 use Rattle.xt_messages.specs.declared.file.Location.{Location}
 use Rattle.xt_messages.specs.declared.file.ObjectVersion.{ObjectVersion}
 use Rattle.xt_messages.specs.declared.file.Op.{Op}
 use Rattle.xt_messages.specs.declared.file.Session.{Session}
 use Rattle.xt_messages.specs.declared.file.Update.{Update}
+use Rattle.xt_messages.specs.declared.record.FileRow.{FileRow}
 use Rattle.xt_messages.specs.declared.record.Record.TheVariants as kept
 use Rattle.xt_protocol.specs.Folds as folds
 use Rattle.xt_protocol.specs.Heads.{new_head, version_of, session_of}
 use Rattle.xt_protocol.specs.Objects.{present_body}
-use Rattle.xt_protocol.specs.Stamps.{is_epoch, is_below, has_version}
+use Rattle.xt_protocol.specs.Stamps.{is_epoch, is_earlier, is_below, has_version}
 use Rattle.replica_safety.specs.Epochs.{Head, name, at_node}
 use Rattle.replica_safety.specs.Lists.{Has}
 use Rattle.replica_safety.specs.Rules.{Start}
@@ -24,7 +27,7 @@ use Rattle.replica_safety.proofs.Orders.{same_is, same_self}
 use Rattle.replica_runs.specs.FileHeads.{Body, head_of, versions_of}
 use Rattle.replica_runs.specs.HeadSteps.{Step, Turn, with_acted, with_primary, keeping, drawn, nobody, none_acked, with_status, with_acked, target_of, last_id, next_stamp, IsChosen, IsMadeOver, AreKept, MayForget, served_versions, after, May, after_steps, MayAll, after_turns, MayTurn}
 use Rattle.replica_runs.specs.HeadSteps as heads
-use Rattle.replica_runs.specs.HeadWorld.{Primary, Idle, Gathering, Installing, Active, leads_in, Node, Message, Gather, Status, UpdateSent, Ack, Piece, Entry, TellsActive, TellsIssue, TellsCommit, ReadOk, WriteOk, World, Local, local, put, BodiesAre, BeginsAt, has_at}
+use Rattle.replica_runs.specs.HeadWorld.{Primary, Idle, Gathering, Installing, Active, leads_in, Node, Message, Gather, Status, UpdateSent, Ack, Piece, Entry, TellsActive, TellsIssue, TellsCommit, ReadOk, WriteOk, World, Local, local, put, BodiesAre, IsOldPiece, BeginsAt, has_at}
 use Rattle.replica_runs.specs.HeadWorld as message
 use Rattle.replica_runs.specs.Made.{bodies_of, IsMade}
 use Rattle.replica_runs.specs.Marks.{AreMade, Begins}
@@ -32,6 +35,7 @@ use Rattle.replica_runs.specs.Steps as step
 use Rattle.replica_runs.specs.Steps.{IsHeld, without, AreHeld, ServesHeld}
 use Rattle.replica_runs.specs.World.{Counted, IsMost, among, epoch_of}
 use Rattle.replica_runs.specs.World as world
+use Rattle.replica_runs.proofs.Content.{made_content}
 use Rattle.replica_runs.proofs.Filtered.{has_left, left_has, named_has}
 use Rattle.replica_runs.proofs.Good.{IsGood, steps, good_begins}
 use Rattle.replica_runs.proofs.HeadAsks.{Reads, mark_size, is_new, made_named, made_over}
@@ -42,7 +46,7 @@ use Rattle.replica_runs.proofs.Present.{read_there}
 use Rattle.replica_runs.proofs.Sessions.{IsSession, IsLast, sessions_show}
 use Rattle.replica_runs.proofs.Shows as shown
 use Rattle.replica_runs.proofs.Tools.{true_false, by_node, by_test, at_own, unchanged, get_push}
-use Rattle.replica_runs.proofs.Versions.{IsNamed, versions_named}
+use Rattle.replica_runs.proofs.Versions.{IsNamed, no_version, versions_named}
 
 some_head : {a b : FileHead} → Some a ≡ Some b → a ≡ b
 some_head p = cc
@@ -53,6 +57,20 @@ count_reached t u same above = at u t.count (subst (λ (e : Epoch). is_below (re
   where
     at : (s : Stamp) (n : ℕ) → is_below (record { epoch = s.epoch; count = n }) s ≡ false → s.count ≤ n
     at s n l = grind (arith, nat_tests)
+
+-- what was sent before a start are bodies of writes before
+piece_there : (bs : List Body) (b : Body) → Has b bs → Has (world.Piece b) (map world.Piece bs)
+piece_there [] b h = absurd h
+piece_there (c ∷ bs) b (inl p) = inl (ap world.Piece p)
+piece_there (c ∷ bs) b (inr h) = inr (piece_there bs b h)
+
+old_stands : (bs : List Body) (m : Message) → IsOldPiece bs m → MessageStands (map world.Piece bs) m
+old_stands bs (Piece o v bytes) h = piece_there bs (record { object = o; version = v; bytes = bytes }) h
+old_stands bs (Gather e) h = absurd h
+old_stands bs (Status r e g) h = absurd h
+old_stands bs (message.Head e g) h = absurd h
+old_stands bs (UpdateSent u) h = absurd h
+old_stands bs (Ack r t) h = absurd h
 
 module _ (stripe : ℕ) (some : 0 < stripe) (ops : ℕ × ℕ → Op) (members : List ℕ) (start : Start) where
   makes : List Update → Update → Type 0
@@ -133,6 +151,38 @@ module _ (stripe : ℕ) (some : 0 < stripe) (ops : ℕ × ℕ → Op) (members :
       good = good;
       stand = moved w v v n (after n (local w n) (heads.StoresList location)) (v.nodes n) (v.held n) (λ r. ap (λ f. f r) (unchanged v.nodes n)) (λ r. ap (λ f. f r) (unchanged v.held n))
           s.holder (record { head = (s.nodes n).head; bodies = record { has = (s.nodes n).bodies.has; holds = (s.nodes n).bodies.holds }; primary = (s.nodes n).primary }) s.sent s.entries s;
+    }
+
+    -- what stays says the same of the bodies
+    bodies_stay : (a b : List ObjectVersion) → a ≡ b → (o : ℕ) (t : Stamp) → has_version a (folds.body_of o t) ≡ has_version b (folds.body_of o t)
+    bodies_stay a b same o t = ap (λ vs. has_version vs (folds.body_of o t)) same
+
+    stores_else : (k : FileRow) → k.head ≡ x.kept.head → k.held ≡ x.kept.held → IsThere (put w n (after n (local w n) (heads.StoresElse k)))
+    stores_else k head held = record {
+      world = v;
+      good = good;
+      stand = moved w v v n (after n (local w n) (heads.StoresElse k)) (v.nodes n) (v.held n) (λ r. ap (λ f. f r) (unchanged v.nodes n)) (λ r. ap (λ f. f r) (unchanged v.held n))
+          s.holder (record {
+            head = head ∙ (s.nodes n).head;
+            bodies = record {
+              has = λ o t h. (s.nodes n).bodies.has o t (sym (bodies_stay k.held x.kept.held held o t) ∙ h);
+              holds = λ o t low b. bodies_stay k.held x.kept.held held o t ∙ (s.nodes n).bodies.holds o t low b;
+            };
+            primary = (s.nodes n).primary;
+          }) s.sent s.entries s;
+    }
+
+    raises : (e : Epoch) → is_earlier x.kept.head.promised e ≡ true → IsThere (put w n (after n (local w n) (heads.Raises e)))
+    raises e above = record {
+      world = step.after v (step.Promises n e);
+      good = goes v (step.Promises n e) (record { above = subst (λ (h : FileHead). is_earlier h.promised e ≡ true) (s.nodes n).head above }) good;
+      stand = moved w v (step.after v (step.Promises n e)) n (after n (local w n) (heads.Raises e)) (record { promised = e; head = y.head; primary = y.primary }) (v.held n)
+          (λ r. refl) (λ r. ap (λ f. f r) (unchanged v.held n)) s.holder
+          (record {
+            head = ap (λ (h : FileHead). record h { promised = e }) (s.nodes n).head;
+            bodies = record { has = (s.nodes n).bodies.has; holds = (s.nodes n).bodies.holds };
+            primary = (s.nodes n).primary;
+          }) s.sent s.entries s;
     }
 
     -- ---- bodies
@@ -355,7 +405,7 @@ module _ (stripe : ℕ) (some : 0 < stripe) (ops : ℕ × ℕ → Op) (members :
             let holds : Has (record { object = o; version = t; bytes = r.0 }) (v.held n) = subst (λ k. IsHeld (v.held n) o k r.0) named r.1 in
             shown.held_is (IsMade stripe ops) members start v good.is.state n ws o (Some t) (x.body o t) good.is.shows good.is.late.apart
             (shown.served_fit (IsMade stripe ops) members start v good.is.state n e ws issued acks is good.is.shows)
-            (subst (λ k. IsNamed ws (bodies_of ws) o k) named (versions_named ws o low))
+            (subst (λ k. IsNamed ws (bodies_of ws) o k) named (versions_named ws o (λ e. absurd (omega (arith, low, e)))))
             ((s.nodes n).bodies.has o t ((s.nodes n).bodies.holds o t low (r.0, holds)))
 
     issues : (e : Epoch) (c : FileHead) (acked : ℕ → Bool) (id : OpId) (truncation : ℕ) (u : Update) → x.primary ≡ Active e c None acked → IsMadeOver stripe ops x.body e c id truncation u
@@ -445,24 +495,30 @@ module _ (stripe : ℕ) (some : 0 < stripe) (ops : ℕ × ℕ → Op) (members :
 
     -- ---- answers
 
-    answers_read : (e : Epoch) (c : FileHead) (issued : Option Update) (acked : ℕ → Bool) (o : ℕ) → x.primary ≡ Active e c issued acked → o < NO_OBJECT
+    answers_read : (e : Epoch) (c : FileHead) (issued : Option Update) (acked : ℕ → Bool) (o : ℕ) → x.primary ≡ Active e c issued acked → IsObject o
         → IsThere (put w n (after n (local w n) (heads.AnswersRead e c issued acked o)))
-    answers_read e c issued acked o is low = at (active x.primary y.primary e c issued acked is (s.nodes n).primary)
+    answers_read e c issued acked o is named = at (active x.primary y.primary e c issued acked is (s.nodes n).primary)
       where
         at : (ws : List Update) × (acks : List ℕ) × (y.primary ≡ world.Active e ws issued acks) × ActiveStands c acked ws acks → IsThere (put w n (after n (local w n) (heads.AnswersRead e c issued acked o)))
         at g = tells (ReadOk n c.stamp.count c.mark.size o (present_body x.body (version_of c.versions o) o)) (world.ShowsRead n g.0 o body)
             (ap (λ (h : FileHead). ReadOk n h.stamp.count h.mark.size o (present_body x.body (version_of h.versions o) o)) g.3.is_committed ∙ ap (λ k. ReadOk n (length g.0) k o body) (mark_size new_head g.0))
-            (goes v (step.AnswersRead n e g.0 issued g.1 o body) (record { serves = g.2; low = low; held = held (version_of (versions_of g.0) o) there.1 }) good)
+            (goes v (step.AnswersRead n e g.0 issued g.1 o body) (record { serves = g.2; none = λ is. none (omega (arith, is)); held = held (cases_eq o NO_OBJECT) }) good)
           where
             body : List ℕ
             body = present_body x.body (version_of (versions_of g.0) o) o
 
-            there : (bytes : List ℕ) × IsHeld (v.held n) o (version_of (versions_of g.0) o) bytes
-            there = read_there (IsMade stripe ops) members v n e g.0 issued g.1 good.present g.2 o low
+            none : OBJECTS ≤ o → bodies_of g.0 o ≡ []
+            none = (made_content stripe ops g.0 (shown.served_made (IsMade stripe ops) members start v good.is.state n e g.0 issued g.1 g.2 good.is.shows)).high o
 
-            held : (t : Option Stamp) → IsHeld (v.held n) o t there.0 → IsHeld (v.held n) o t (present_body x.body t o)
-            held None h = refl
-            held (Some t) h = (s.nodes n).bodies.has o t ((s.nodes n).bodies.holds o t low (there.0, h))
+            of : o < NO_OBJECT → (t : Option Stamp) → version_of (versions_of g.0) o ≡ t → (bytes : List ℕ) × IsHeld (v.held n) o t bytes → IsHeld (v.held n) o t (present_body x.body t o)
+            of low None is there = refl
+            of low (Some t) is there = (s.nodes n).bodies.has o t ((s.nodes n).bodies.holds o t low there)
+
+            held : (o ≡ NO_OBJECT) ⊎ (o ≢ NO_OBJECT) → IsHeld (v.held n) o (version_of (versions_of g.0) o) body
+            held (inl e) = subst (λ t. IsHeld (v.held n) o t (present_body x.body t o)) (sym (ap (version_of (versions_of g.0)) e ∙ no_version g.0)) refl
+            held (inr ne) =
+                let low : o < NO_OBJECT = omega (arith, named, ne) in
+                of low (version_of (versions_of g.0) o) refl (read_there (IsMade stripe ops) members v n e g.0 issued g.1 good.present g.2 o low)
 
     answers_repeated : (e : Epoch) (c : FileHead) (issued : Option Update) (acked : ℕ → Bool) (client : ℕ) (session : Session) → x.primary ≡ Active e c issued acked → session_of c.sessions client ≡ Some session
         → IsThere (put w n (after n (local w n) (heads.AnswersRepeated e c issued acked client session)))
@@ -483,6 +539,8 @@ module _ (stripe : ℕ) (some : 0 < stripe) (ops : ℕ × ℕ → Op) (members :
   next_there w n heads.Loses may r = loses w r.world n r.good r.stand
   next_there w n (heads.Cuts sent) may r = cuts w r.world n r.good r.stand sent may
   next_there w n (heads.StoresList location) may r = stores w r.world n r.good r.stand location
+  next_there w n (heads.StoresElse k) may r = stores_else w r.world n r.good r.stand k may.0 may.1
+  next_there w n (heads.Raises e) may r = raises w r.world n r.good r.stand e may
   next_there w n (heads.Gathers e) may r = gathers_reached stripe ops members start w r.world n r.good r.stand e may
   next_there w n (heads.TakesHead e h) may r = takes_head_reached stripe ops members start w r.world n r.good r.stand e h may
   next_there w n (heads.TakesUpdate u) may r = takes_update_reached stripe ops members start w r.world n r.good r.stand u may
@@ -548,7 +606,7 @@ module _ (stripe : ℕ) (some : 0 < stripe) (ops : ℕ × ℕ → Op) (members :
     stand = record {
       nodes = λ r. record { head = at.head r; bodies = at.bodies r; primary = subst (λ p. Stands p world.Idle) (sym (at.idle r)) refl };
       holder = at.free;
-      sent = λ m h. absurd (subst (Has m) at.silent h);
+      sent = λ m h. old_stands start.old m (at.silent m h);
       entries = at.untold;
     };
   }

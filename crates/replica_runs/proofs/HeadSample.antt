@@ -1,8 +1,7 @@
 -- The sample, step by step.
-use Rattle.std.proofs.Common.{◌≡◌, ℕ, suc, ◌*◌, ◌<◌, true, [], ◌∷◌, length, refl, subst, inl, inr, arith, if◌then◌else◌, Some, None}
+use Rattle.std.proofs.Common.{◌≡◌, ℕ, suc, ◌*◌, ◌^◌, ◌<◌, true, [], ◌∷◌, length, refl, subst, inl, inr, arith, if◌then◌else◌, Some, None}
 use Rattle.std.specs.Prelude.{nat_lt, count_by, is_some, slice_index, zero}
 use Rattle.std.proofs.lemmas.Bool.Decides.{nat_tests}
-use Rattle.xt_base.specs.declared.TheConstants.{NO_OBJECT}
 use Rattle.xt_messages.specs.declared.file.Op.TheVariants as op
 use Rattle.xt_messages.specs.declared.file.FileHead.{FileHead}
 use Rattle.xt_protocol.specs.Heads.{first_epoch}
@@ -46,8 +45,11 @@ begins = record {
   };
   promised = λ r. omega arith;
   older = λ u h. absurd h;
+  own = omega arith;
   apart = λ u v h k e. absurd h;
   made = tt;
+  old_older = λ b h. absurd h;
+  old_right = λ b u h k e. absurd h;
 }
 
 bytes_fit : (i : ℕ) → slice_index (97 ∷ []) i < 256
@@ -64,7 +66,7 @@ pub sample_runs : SampleRuns
 unfolding gathered headed updated standing
 sample_runs = record {
   begins = begins;
-  begins_at = record { head = λ r. refl; bodies = λ r. record { has = λ o v h. absurd cc; holds = λ o v low h. absurd h.1 }; idle = λ r. refl; free = refl; silent = refl; untold = refl };
-  runs = ((refl, (refl, (inl refl, tt))), ((inr (inl refl), tt), (((refl, refl, inr (inl refl)), ((refl, refl, inl refl), ((refl, chosen), (refl, (inl refl, tt))))), ((inr (inl refl), tt), (((refl, inr (inl refl), refl), ((refl, inl refl, refl), ((refl, less 3 4 refl, refl), ((refl, record { allowed = allowed; stands = refl; makes = refl }), (inl refl, tt))))), ((inr (inl refl), tt), (((refl, inr (inl refl), refl, refl), ((refl, inl refl, refl, refl), ((refl, less 3 4 refl, refl), ((refl, less 0 NO_OBJECT refl), tt)))), tt)))))));
+  begins_at = record { head = λ r. refl; bodies = λ r. record { has = λ o v h. absurd cc; holds = λ o v low h. absurd h.1 }; idle = λ r. refl; free = refl; silent = λ m h. absurd h; untold = refl };
+  runs = ((refl, (refl, (inl refl, tt))), ((inr (inl refl), tt), (((refl, refl, inr (inl refl)), ((refl, refl, inl refl), ((refl, chosen), (refl, (inl refl, tt))))), ((inr (inl refl), tt), (((refl, inr (inl refl), refl), ((refl, inl refl, refl), ((refl, less 3 4 refl, refl), ((refl, record { allowed = allowed; stands = refl; makes = refl }), (inl refl, tt))))), ((inr (inl refl), tt), (((refl, inr (inl refl), refl, refl), ((refl, inl refl, refl, refl), ((refl, less 3 4 refl, refl), ((refl, less 0 (2 ^ 64) refl), tt)))), tt)))))));
   entries = refl;
 }

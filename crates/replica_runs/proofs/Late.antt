@@ -1,12 +1,11 @@
 -- What is issued is of a later epoch than the start. No history is needed for it.
-use Rattle.std.proofs.Common.{◌≡◌, ℕ, ◌≤◌, ◌⊎◌, true, List, [], ◌∷◌, refl, sym, ap, ◌∙◌, subst, inl, inr, arith, if◌then◌else◌, Some, None}
-use Rattle.xt_protocol.specs.Stamps.{is_earlier}
+use Rattle.std.proofs.Common.{◌≡◌, ℕ, ◌<◌, ◌≤◌, ◌⊎◌, List, [], ◌∷◌, refl, sym, ap, ◌∙◌, subst, inl, inr, arith, if◌then◌else◌, Some, None}
 use Rattle.replica_safety.specs.Epochs.{Epoch, Stamp, Write}
 use Rattle.replica_safety.specs.Lists.{Has}
 use Rattle.replica_safety.specs.Rules.{Start}
 use Rattle.replica_runs.specs.World.{Primary, Idle, Gathering, Installing, Active, epoch_of, Node, Message, Update, World}
 use Rattle.replica_runs.specs.Steps.{Step, Gains, Loses, Promises, SendsStatus, TakesHead, TakesUpdate, SendsAck, KeepsUpdate, SendsBody, KeepsBody, Forgets, Draws, SendsGather, CountsStatus, Chooses, SendsChosen, SendsOwn, CountsInstalled, Activates, Issues, SendsUpdate, CountsUpdated, Commits, AnswersRead, AnswersWrite, renoded, sends, after, May}
-use Rattle.replica_runs.proofs.Tools.{by_node, lower_number, number_up}
+use Rattle.replica_runs.proofs.Tools.{by_node, number_up}
 use Rattle.replica_runs.proofs.Fits.{Apart}
 
 -- an issued update is stamped with its epoch
@@ -18,14 +17,14 @@ IsStamped (Gathering e counted) = Unit {0}
 IsStamped (Installing e ws acked) = Unit {0}
 
 pub record LateNode (start : Start) (x : Node) : Type 0 where
-  pub floor : start.epoch.number ≤ x.promised.number
-  pub later : (e : Epoch) → epoch_of x.primary ≡ Some e → is_earlier start.epoch e ≡ true
+  pub floor : start.floor ≤ x.promised.number
+  pub later : (e : Epoch) → epoch_of x.primary ≡ Some e → start.floor < e.number
   pub stamped : IsStamped x.primary
 
 pub record Late (start : Start) (w : World) : Type 0 where
   pub apart : Apart start
   pub nodes : (r : ℕ) → LateNode start (w.nodes r)
-  pub updates : (v : Write) → Has (Update v) w.messages → is_earlier start.epoch v.stamp.epoch ≡ true
+  pub updates : (v : Write) → Has (Update v) w.messages → start.floor < v.stamp.epoch.number
 
 module _ (start : Start) where
   at : (w : World) (n : ℕ) (x : Node) → LateNode start x → Late start w → Late start (renoded w n x)
@@ -39,7 +38,7 @@ module _ (start : Start) where
   other : (w : World) (m : Message) → ((v : Write) → Update v ≡ m → ⊥) → Late start w → Late start (sends w m)
   other w m never ok = record { apart = ok.apart; nodes = ok.nodes; updates = λ v h. old v h }
     where
-      old : (v : Write) → (Update v ≡ m) ⊎ Has (Update v) w.messages → is_earlier start.epoch v.stamp.epoch ≡ true
+      old : (v : Write) → (Update v ≡ m) ⊎ Has (Update v) w.messages → start.floor < v.stamp.epoch.number
       old v (inl p) = absurd (never v p)
       old v (inr h) = ok.updates v h
 
@@ -51,7 +50,7 @@ module _ (start : Start) where
       Late start (renoded w n (record { promised = (w.nodes n).promised; head = (w.nodes n).head; primary = q }))
   goes_on w n p q e is here there stamped ok = at w n (record { promised = (w.nodes n).promised; head = (w.nodes n).head; primary = q }) (record {
     floor = (ok.nodes n).floor;
-    later = λ d r. subst (λ x. is_earlier start.epoch x ≡ true) (some_epoch (sym there ∙ r)) ((ok.nodes n).later e (ap epoch_of is ∙ here));
+    later = λ d r. subst (λ (x : Epoch). start.floor < x.number) (some_epoch (sym there ∙ r)) ((ok.nodes n).later e (ap epoch_of is ∙ here));
     stamped = stamped;
   }) ok
 
@@ -70,7 +69,7 @@ module _ (start : Start) where
   stays_late makes members w (Forgets r held) may ok = record { apart = ok.apart; nodes = ok.nodes; updates = ok.updates }
   stays_late makes members w (Draws n e) may ok = at w n _ (record {
     floor = omega (arith, (ok.nodes n).floor, may.above);
-    later = λ d p. subst (λ x. is_earlier start.epoch x ≡ true) (some_epoch p) (lower_number start.epoch e (omega (arith, (ok.nodes n).floor, may.above)));
+    later = λ d p. subst (λ (x : Epoch). start.floor < x.number) (some_epoch p) (omega (arith, (ok.nodes n).floor, may.above));
     stamped = tt;
   }) ok
   stays_late makes members w (SendsGather n e) may ok = other w _ (λ v p. cc) ok
@@ -85,9 +84,9 @@ module _ (start : Start) where
       record { apart = t.apart; nodes = t.nodes; updates = t.updates }
   stays_late makes members w (SendsUpdate n e ws v acked) may ok = record { apart = ok.apart; nodes = ok.nodes; updates = λ u h. new u h }
     where
-      new : (u : Write) → (Update u ≡ Update v) ⊎ Has (Update u) w.messages → is_earlier start.epoch u.stamp.epoch ≡ true
-      new u (inl p) = subst (λ (x : Write). is_earlier start.epoch x.stamp.epoch ≡ true) (sym (same p))
-          (subst (λ d. is_earlier start.epoch d ≡ true) (sym (subst IsStamped may (ok.nodes n).stamped)) ((ok.nodes n).later e (ap epoch_of may)))
+      new : (u : Write) → (Update u ≡ Update v) ⊎ Has (Update u) w.messages → start.floor < u.stamp.epoch.number
+      new u (inl p) = subst (λ (x : Write). start.floor < x.stamp.epoch.number) (sym (same p))
+          (subst (λ (d : Epoch). start.floor < d.number) (sym (subst IsStamped may (ok.nodes n).stamped)) ((ok.nodes n).later e (ap epoch_of may)))
         where
           same : Update u ≡ Update v → u ≡ v
           same q = cc

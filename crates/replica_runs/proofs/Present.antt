@@ -54,7 +54,7 @@ pushed held ws u here all o v low is = at (subst (λ (h : FileHead). version_of 
   where
     at : version_of (head_after (folded new_head ws) u).versions o ≡ Some v → Holds held o v
     at is2 = elim (cases_eq o u.object) as (λ w. Holds held o v) [
-      | inl e ↦ subst (Holds held o) (some_stamp (sym (version_here (versions_of ws) u (subst (λ k. k < NO_OBJECT) e low)) ∙ subst (λ k. version_of (head_after (folded new_head ws) u).versions k ≡ Some v) e is2))
+      | inl e ↦ subst (Holds held o) (some_stamp (sym (version_here (versions_of ws) u (λ n. low_some o low (e ∙ n))) ∙ subst (λ k. version_of (head_after (folded new_head ws) u).versions k ≡ Some v) e is2))
           (subst (λ k. Holds held k u.stamp) (sym e) (here (λ n. low_some o low (e ∙ n))))
       | inr ne ↦ by_less (λ b. (if b then version_of (versions_of ws) o else None) ≡ Some v → Holds held o v) o u.drop_from (λ _ k. all o v low k) (λ _ k. absurd cc)
           (sym (version_next (versions_of ws) u o ne) ∙ is2)
@@ -105,7 +105,7 @@ module _ (makes : List Write → Write → Type 0) (members : List ℕ) where
 
 -- a start holds what its heads name
 mapped : (us : List Write) → AreHeld (bodies_in us) us
-mapped us o v low is = at (subst (IsNamed us (bodies_of us) o) is (versions_named us o low))
+mapped us o v low is = at (subst (IsNamed us (bodies_of us) o) is (versions_named us o (λ e. absurd (low_some o low e))))
   where
     at : (u : Write) × Has u us × (u.object ≡ o) × (u.stamp ≡ v) × (u.body ≡ bodies_of us o) → Holds (bodies_in us) o v
     at n = (n.0.body, subst₂ (λ x y. Has (record { object = x; version = y; bytes = n.0.body }) (bodies_in us)) n.2 n.3 (body_there n.0 us (λ e. low_some o low (sym n.2 ∙ e)) n.1))

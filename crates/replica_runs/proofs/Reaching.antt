@@ -32,7 +32,7 @@ use Rattle.replica_runs.proofs.Tools.{by_test, has-right}
 use Rattle.replica_runs.specs.FileView.{Reaches}
 use Rattle.replica_runs.specs.Seen.{Seen, local_of, AreIn, AreTold, AreUntold, Fits, Leads}
 use Rattle.replica_runs.proofs.Feeding.{if_any_shown}
-use Rattle.replica_runs.proofs.Replicas.{held_grows, same_file, tenure_grows, ActsWell, gathers_well, takes_head_well, takes_update_well}
+use Rattle.replica_runs.proofs.Replicas.{same_file, tenure_grows, ActsWell, gathers_well, takes_head_well, takes_update_well}
 use Rattle.replica_runs.proofs.Sending.{are_in, has-left}
 use Rattle.replica_runs.proofs.Serving.{told_append, joined_none}
 
@@ -81,7 +81,7 @@ module _ (stripe : ℕ) (ops : ℕ × ℕ → Op) (members : List ℕ) (n : ℕ)
     calm = inr tt;
     fits = record {
       names = well.names fits.names;
-      tenure = tenure_grows members n a b a.tenure refl (same_file a.kept acted.rec) (held_grows a.kept acted.rec) (λ x h. has-right x (shown_if n acted.answer) a.sent h) fits.tenure;
+      tenure = tenure_grows members n a b a.tenure refl (same_file a.kept acted.rec) well.grows (λ x h. has-right x (shown_if n acted.answer) a.sent h) fits.tenure;
     };
   }
     where
@@ -125,8 +125,12 @@ module _ (stripe : ℕ) (ops : ℕ × ℕ → Op) (members : List ℕ) (n : ℕ)
       acts a from (record { rec = stage_record a.kept.file a.kept.held object version bytes; answer = Some answer }) (KeepsBody object version bytes) fits has
       (ap (λ (xs : List Message). record (with_acted n (local_of a) (keeping (local_of a) object version bytes)) { sent = xs ++ a.sent }) (sym nothing))
       (by_test (λ b. ActsWell n a.kept (record { rec = cond b None (Some (kept.Stage a.kept.file object version bytes)); answer = Some answer })) (has_version a.kept.held (body_of object version))
-      (λ _. record { names = λ k. k; told = λ k e h g. absurd (subst (Has (Status n e h)) nothing g) })
-      (λ _. record { names = λ k v g. held_more a.kept.held (body_of object version) v (k v g); told = λ k e h g. absurd (subst (Has (Status n e h)) nothing g) }))
+      (λ _. record { grows = λ v g. g; names = λ k. k; told = λ k e h g. absurd (subst (Has (Status n e h)) nothing g) })
+      (λ _. record {
+        grows = held_more a.kept.held (body_of object version);
+        names = λ k v g. held_more a.kept.held (body_of object version) v (k v g);
+        told = λ k e h g. absurd (subst (Has (Status n e h)) nothing g);
+      }))
 
   pub stage_acts : (a : Seen) (from : NodeId) (e : Epoch) (object : ℕ) (version : Stamp) (bytes : List ℕ) → Fits members n a → Has (Piece object version bytes) a.sent
       → Acts a from (staged a.kept.file a.kept.head a.kept.held e object version bytes)
@@ -149,7 +153,7 @@ module _ (stripe : ℕ) (ops : ℕ × ℕ → Op) (members : List ℕ) (n : ℕ)
       by_test (λ b. has_version a.kept.held (body_of object version) ≡ b → Reaches stripe ops members n a a.tenure (sends (message (record { 0 = n }) from
       (cond b (payload.Object a.kept.file e object version (a.body object version)) (payload.Missing a.kept.file e object version)) ∷ []))) (has_version a.kept.held (body_of object version))
       (λ _ held. acts a from (only (payload.Object a.kept.file e object version (a.body object version))) (SendsBody object version) fits held refl
-      (record { names = λ k. k; told = λ k d h g. absurd (no_status d h g) }))
+      (record { grows = λ v g. g; names = λ k. k; told = λ k d h g. absurd (no_status d h g) }))
       (λ _ _. unshown a from (payload.Missing a.kept.file e object version) fits refl) refl
     where
       no_status : (d : Epoch) (h : FileHead) → Has (Status n d h) (Piece object version (a.body object version) ∷ []) → ⊥
@@ -164,10 +168,7 @@ module _ (stripe : ℕ) (ops : ℕ × ℕ → Op) (members : List ℕ) (n : ℕ)
   untold_told (mark.Issue file count id ∷ ms) un es = absurd un
   untold_told (mark.Commit file count id ∷ ms) un es = absurd un
   untold_told (mark.Answer file id count bytes ∷ ms) un es = absurd un
-  untold_told (mark.File file location ∷ ms) un es = untold_told ms un es
-  untold_told (mark.Begin number call ∷ ms) un es = untold_told ms un es
-  untold_told (mark.Held file end ∷ ms) un es = untold_told ms un es
-  untold_told (mark.Done number outcome ∷ ms) un es = untold_told ms un es
+  untold_told (_ ∷ ms) un es = untold_told ms un es
 
   -- marks that report nothing leave the entries
   pub untold_same : (ms : List Mark) → AreUntold ms → (es es2 : List Entry) → AreTold stripe ops n ms es es2 → es ≡ es2
@@ -176,10 +177,7 @@ module _ (stripe : ℕ) (ops : ℕ × ℕ → Op) (members : List ℕ) (n : ℕ)
   untold_same (mark.Issue file count id ∷ ms) un es es2 told = absurd un
   untold_same (mark.Commit file count id ∷ ms) un es es2 told = absurd un
   untold_same (mark.Answer file id count bytes ∷ ms) un es es2 told = absurd un
-  untold_same (mark.File file location ∷ ms) un es es2 told = untold_same ms un es es2 told
-  untold_same (mark.Begin number call ∷ ms) un es es2 told = untold_same ms un es es2 told
-  untold_same (mark.Held file end ∷ ms) un es es2 told = untold_same ms un es es2 told
-  untold_same (mark.Done number outcome ∷ ms) un es es2 told = untold_same ms un es es2 told
+  untold_same (_ ∷ ms) un es es2 told = untold_same ms un es es2 told
 
   untold_append : (first later : List Mark) → AreUntold first → AreUntold later → AreUntold (first ++ later)
   untold_append [] later a b = b
@@ -187,10 +185,7 @@ module _ (stripe : ℕ) (ops : ℕ × ℕ → Op) (members : List ℕ) (n : ℕ)
   untold_append (mark.Issue file count id ∷ ms) later a b = absurd a
   untold_append (mark.Commit file count id ∷ ms) later a b = absurd a
   untold_append (mark.Answer file id count bytes ∷ ms) later a b = absurd a
-  untold_append (mark.File file location ∷ ms) later a b = untold_append ms later a b
-  untold_append (mark.Begin number call ∷ ms) later a b = untold_append ms later a b
-  untold_append (mark.Held file end ∷ ms) later a b = untold_append ms later a b
-  untold_append (mark.Done number outcome ∷ ms) later a b = untold_append ms later a b
+  untold_append (_ ∷ ms) later a b = untold_append ms later a b
 
   -- a part of a step that keeps nothing and shows nothing
   pub record IsMute (turned : Turned) : Type 0 where

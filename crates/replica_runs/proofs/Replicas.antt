@@ -23,7 +23,7 @@ use Rattle.xt_protocol.specs.declared.states.Progress.{Progress}
 use Rattle.xt_protocol.specs.declared.states.Progress.TheVariants as progress
 use Rattle.xt_protocol.specs.declared.states.Tenure.{Tenure}
 use Rattle.xt_protocol.specs.Primaries.{last_sent}
-use Rattle.xt_protocol.specs.ReplicaRows.{kept_after, unanswered, only, after_record, refused, behind, as_promised, gathered, head_taken, first_missing, head_offered, headed, head_fits, next_update, update_offered, updated}
+use Rattle.xt_protocol.specs.ReplicaRows.{kept_after, unanswered, only, after_record, refused, behind, as_promised, gathered, head_taken, first_missing, head_offered, headed, head_fits, next_update, update_offered, updated, stage_record}
 use Rattle.replica_safety.specs.Lists.{Has}
 use Rattle.replica_runs.specs.HeadWorld.{Message, Status, shown, shown_if}
 use Rattle.replica_runs.proofs.HeldVersions.{held_new, held_more}
@@ -36,16 +36,14 @@ use Rattle.replica_runs.proofs.Sending.{are_in, in_are}
 abbrev pub Grows : List ObjectVersion → List ObjectVersion → Type 0
 Grows held more = (v : ObjectVersion) → has_version held v ≡ true → has_version more v ≡ true
 
-pub held_grows : (row : FileRow) (rec : Option Record) → Grows row.held (kept_after row rec).held
-held_grows row None v h = h
-held_grows row (Some (kept.Promise file epoch)) v h = h
-held_grows row (Some (kept.Update file update)) v h =
-    by_test (λ b. has_version (cond b row.held (with_held row.held (body_of update.object update.stamp))) v ≡ true) (update.object == NO_OBJECT) (λ _. h) (λ _. held_more row.held (body_of update.object update.stamp) v h)
-held_grows row (Some (kept.Stage file object version bytes)) v h = held_more row.held (body_of object version) v h
-held_grows row (Some (kept.Head file head)) v h = h
-held_grows row (Some (kept.View file location)) v h = h
-held_grows row (Some (kept.Boot boot)) v h = h
-held_grows row (Some (kept.Meta from number now nodes request)) v h = h
+update_grows : (held : List ObjectVersion) (u : Update) → Grows held (held_after held u)
+update_grows held u v h =
+    by_test (λ b. has_version (cond b held (with_held held (body_of u.object u.stamp))) v ≡ true) (u.object == NO_OBJECT) (λ _. h) (λ _. held_more held (body_of u.object u.stamp) v h)
+
+pub stage_grows : (row : FileRow) (object : ℕ) (version : Stamp) (bytes : List ℕ) → Grows row.held (kept_after row (stage_record row.file row.held object version bytes)).held
+stage_grows row object version bytes v h =
+    by_test (λ b. has_version (kept_after row (cond b None (Some (kept.Stage row.file object version bytes)))).held v ≡ true) (has_version row.held (body_of object version))
+    (λ _. h) (λ _. held_more row.held (body_of object version) v h)
 
 pub same_file : (row : FileRow) (rec : Option Record) → (kept_after row rec).file ≡ row.file
 same_file row None = refl
@@ -81,17 +79,18 @@ module _ (members : List ℕ) (n : ℕ) where
 
 -- ---- what a row of a replica keeps and answers
 
--- the bodies that the head names stay held, and a status reports a head whose bodies are held
+-- what is held stays held, the bodies that the head names among it, and a status reports a head whose bodies are held
 pub record ActsWell (n : ℕ) (row : FileRow) (acted : Acted) : Type 0 where
+  pub grows : Grows row.held (kept_after row acted.rec).held
   pub names : NamesHeld row.held row.head.versions → NamesHeld (kept_after row acted.rec).held (kept_after row acted.rec).head.versions
   pub told : NamesHeld row.held row.head.versions → (e : Epoch) (h : FileHead) → Has (Status n e h) (shown_if n acted.answer) → NamesHeld row.held h.versions
 
 -- an answer that is no status, without a record
 answers_well : (n : ℕ) (row : FileRow) (answer : Payload) → ((e : Epoch) (h : FileHead) → Has (Status n e h) (shown n answer) → ⊥) → ActsWell n row (only answer)
-answers_well n row answer silent = record { names = λ k. k; told = λ k e h has. absurd (silent e h has) }
+answers_well n row answer silent = record { grows = λ v h. h; names = λ k. k; told = λ k e h has. absurd (silent e h has) }
 
 nothing_well : (n : ℕ) (row : FileRow) → ActsWell n row unanswered
-nothing_well n row = record { names = λ k. k; told = λ k e h has. absurd has }
+nothing_well n row = record { grows = λ v h. h; names = λ k. k; told = λ k e h has. absurd has }
 
 promised_well : (n : ℕ) (row : FileRow) (e : Epoch) (acted : Acted) → ActsWell n row acted → ActsWell n row (as_promised row.file row.head e acted)
 promised_well n row e acted well =
@@ -114,8 +113,8 @@ gathers_well n row e =
     (after_record (kept.Promise row.file e) (payload.Status row.file e (record row.head { promised = e }))) (only (payload.Status row.file e row.head))))) (is_earlier e row.head.promised)
     (λ _. answers_well n row (payload.Refused row.file e row.head.promised) (λ d h k. k))
     (λ _. by_test (λ b. ActsWell n row (cond b (after_record (kept.Promise row.file e) (payload.Status row.file e (record row.head { promised = e }))) (only (payload.Status row.file e row.head)))) (is_earlier row.head.promised e)
-    (λ _. record { names = λ k. k; told = λ k. status_same n row.held row.head.versions e (record row.head { promised = e }) refl k })
-    (λ _. record { names = λ k. k; told = λ k. status_same n row.held row.head.versions e row.head refl k }))
+    (λ _. record { grows = λ v h. h; names = λ k. k; told = λ k. status_same n row.held row.head.versions e (record row.head { promised = e }) refl k })
+    (λ _. record { grows = λ v h. h; names = λ k. k; told = λ k. status_same n row.held row.head.versions e row.head refl k }))
 
 all_held : (held vs : List ObjectVersion) → first_missing held vs ≡ None → NamesHeld held vs
 all_held held [] none v h = absurd h
@@ -141,7 +140,7 @@ takes_head_well n row e head =
     no_status d h (inr k) = k
 
     takes : (o : Option ObjectVersion) → first_missing row.held head.versions ≡ o → ActsWell n row (head_taken row.file e head o)
-    takes None is = record { names = λ k. all_held row.held head.versions is; told = λ k d h has. absurd (no_status d h has) }
+    takes None is = record { grows = λ v h. h; names = λ k. all_held row.held head.versions is; told = λ k d h has. absurd (no_status d h has) }
     takes (Some v) is = answers_well n row (payload.Missing row.file e v.object v.version) (λ d h k. k)
 
 in_filter : (test : ObjectVersion → Bool) (vs : List ObjectVersion) (v : ObjectVersion) → Has v (filter test vs) → Has v vs
@@ -193,7 +192,7 @@ takes_update_well n row u = promised_well n row u.stamp.epoch (update_offered ro
     (λ _. answers_well n row (payload.Ack row.file u.stamp) no_status)
     (λ _. by_test (λ b. ActsWell n row (cond b (next_update row.file row.head u) (behind row.file row.head u.stamp.epoch))) (u.stamp.count == row.head.stamp.count + 1)
     (λ _. by_test (λ b. ActsWell n row (cond b (after_record (kept.Update row.file u) (payload.Ack row.file u.stamp)) unanswered)) (head_fits (head_after row.head u))
-    (λ _. record { names = update_names row u; told = λ k d h has. absurd (no_status d h has) }) (λ _. nothing_well n row))
+    (λ _. record { grows = update_grows row.held u; names = update_names row u; told = λ k d h has. absurd (no_status d h has) }) (λ _. nothing_well n row))
     (λ _. answers_well n row (payload.Behind row.file u.stamp.epoch row.head.stamp) (λ d h k. k))))
     (λ _. answers_well n row (payload.Behind row.file u.stamp.epoch row.head.stamp) (λ d h k. k)))
   where

@@ -42,7 +42,7 @@ has-left x [] ys h = absurd h
 has-left x (y ∷ xs) ys (inl p) = inl p
 has-left x (y ∷ xs) ys (inr h) = inr (has-left x xs ys h)
 
-has_flat : {A : Type 0} (f : A → List Message) (ys : List A) (y : A) (x : Message) → Has y ys → Has x (f y) → Has x (flat_map f ys)
+pub has_flat : {A : Type 0} (f : A → List Message) (ys : List A) (y : A) (x : Message) → Has y ys → Has x (f y) → Has x (flat_map f ys)
 has_flat f [] y x h k = absurd h
 has_flat f (z ∷ ys) y x (inl p) k = has-left x (f z) (flat_map f ys) (subst (λ w. Has x (f w)) p k)
 has_flat f (z ∷ ys) y x (inr h) k = has-right x (f z) (flat_map f ys) (has_flat f ys y x h k)

@@ -1,8 +1,8 @@
 -- Each ask that a primary serves is a small step, or none; so are all that wait, one after the other, and what a wake sends again.
-use Rattle.std.proofs.Common.{◌≡◌, ℕ, ◌⊎◌, true, false, List, [], ◌∷◌, ◌++◌, refl, sym, ap, ap₂, ◌∙◌, subst, inl, inr, arith, ◌+◌, ◌≤◌, ◌<◌, Option, Some, None}
+use Rattle.std.proofs.Common.{◌≡◌, ℕ, ◌⊎◌, true, false, List, [], ◌∷◌, ◌++◌, refl, sym, ap, ap₂, ◌∙◌, subst, inl, inr, arith, ◌+◌, ◌≤◌, Option, Some, None}
 use Rattle.std.specs.Prelude.{cond, nat_lt, length}
 use Rattle.std.proofs.lemmas.Bool.Decides.{nat_tests}
-use Rattle.xt_base.specs.declared.TheConstants.{OBJECTS, CLIENTS, COUNTS, NO_OBJECT}
+use Rattle.xt_base.specs.declared.TheConstants.{OBJECTS, CLIENTS, COUNTS}
 use Rattle.xt_base.specs.declared.ids.NodeId.{NodeId}
 use Rattle.xt_base.specs.declared.ids.Epoch.{Epoch}
 use Rattle.xt_base.specs.declared.ids.OpId.{OpId}
@@ -103,10 +103,7 @@ module _ (stripe : ℕ) (ops : ℕ × ℕ → Op) (members : List ℕ) (n : ℕ)
   told_append (mark.Issue file count id ∷ ms) later es es1 es2 a b = told_append ms later (TellsIssue n count (name_of id) ∷ es) es1 es2 a b
   told_append (mark.Commit file count id ∷ ms) later es es1 es2 a b = told_append ms later (TellsCommit n count (name_of id) ∷ es) es1 es2 a b
   told_append (mark.Answer file id count bytes ∷ ms) later es es1 es2 a b = (a.0, a.1, told_append ms later (a.0 ∷ es) es1 es2 a.2 b)
-  told_append (mark.File file location ∷ ms) later es es1 es2 a b = told_append ms later es es1 es2 a b
-  told_append (mark.Begin number call ∷ ms) later es es1 es2 a b = told_append ms later es es1 es2 a b
-  told_append (mark.Held file end ∷ ms) later es es1 es2 a b = told_append ms later es es1 es2 a b
-  told_append (mark.Done number outcome ∷ ms) later es es1 es2 a b = told_append ms later es es1 es2 a b
+  told_append (_ ∷ ms) later es es1 es2 a b = told_append ms later es es1 es2 a b
 
   pub joined_none : (first : Option Record) → the_record first None ≡ first
   joined_none None = refl
@@ -191,18 +188,15 @@ module _ (stripe : ℕ) (ops : ℕ × ℕ → Op) (members : List ℕ) (n : ℕ)
       marks : List Mark
       marks = mark.Answer z.kept.file.number id c.stamp.count bytes ∷ []
 
-      low : object < NO_OBJECT
-      low = omega (arith, allowed.fits.0)
-
       told : AreTold stripe ops n marks z.entries (entry ∷ z.entries)
       told = (entry, (at, len, refl, refl, is, lower stripe at len allowed.inside, refl), refl)
 
       by_issued : (i : Option IssuedUpdate) → IsFit stripe ops members n (seen_in z (tenure_of e peers (progress.Active c i)))
           → Quietly (seen_in z (tenure_of e peers (progress.Active c i))) (Some (tenure_of e peers (progress.Active c i))) (answers (record { 0 = n }) z.kept.file id c.stamp.count c.mark bytes)
       by_issued None fit = answers_row z e peers (progress.Active c None) id.client (payload.Reply id.number z.kept.file (reply.Ok c.stamp.count c.mark bytes)) marks (entry ∷ z.entries) (AnswersRead e c None none_acked object ∷ []) fit refl
-          ((refl, low), tt) refl told
+          ((refl, allowed.fits.0), tt) refl told
       by_issued (Some i) fit = answers_row z e peers (progress.Active c (Some i)) id.client (payload.Reply id.number z.kept.file (reply.Ok c.stamp.count c.mark bytes)) marks (entry ∷ z.entries) (AnswersRead e c (Some i.update) (acked_by i.acked) object ∷ []) fit refl
-          ((refl, low), tt) refl told
+          ((refl, allowed.fits.0), tt) refl told
   read_active z e peers c issued id (op.Write object at bytes) fits allowed is reads_it = true_false reads_it refl
   read_active z e peers c issued id (op.Truncate size) fits allowed is reads_it = true_false reads_it refl
 

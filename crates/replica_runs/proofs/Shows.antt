@@ -23,7 +23,7 @@ use Rattle.replica_runs.specs.FileHeads.{Body, body_of, versions_of}
 use Rattle.replica_runs.specs.Made.{bodies_of}
 use Rattle.replica_runs.proofs.Versions.{IsNamed, versions_named}
 use Rattle.replica_runs.proofs.Late.{Late, stays_late, seems_late}
-use Rattle.replica_runs.proofs.Fits.{BodyFits, IsKnown, Apart, known_grows, one_known, body_grows, GatheringFits, InstallingFits, ActiveFits, PrimaryFits, leads_current, leads_held, idle_else, idle_all, Steady, primary_steady, InstallFits, UpdateFits, AckFits, Justified, Grows, grows_self, grows_on, grows, justified_grows}
+use Rattle.replica_runs.proofs.Fits.{BodyFits, old_pieces, no_updates, IsKnown, Apart, known_grows, one_known, body_grows, GatheringFits, InstallingFits, ActiveFits, PrimaryFits, leads_current, leads_held, idle_else, idle_all, Steady, primary_steady, InstallFits, UpdateFits, AckFits, Justified, Grows, grows_self, grows_on, grows, justified_grows}
 
 pub record Shows (makes : List Write → Write → Type 0) (members : List ℕ) (start : Start) (w : World) (s : State) : Type 0 where
   pub sound : Sound members start s
@@ -478,7 +478,7 @@ module _ (makes : List Write → Write → Type 0) (members : List ℕ) (start :
         };
       }
 
-  issues : (w : World) (s : State) (n : ℕ) (e : Epoch) (ws : List Write) (acked : List ℕ) (v : Write) → May makes members w (Issues n e ws acked v) → is_earlier start.epoch e ≡ true → Shows makes members start w s →
+  issues : (w : World) (s : State) (n : ℕ) (e : Epoch) (ws : List Write) (acked : List ℕ) (v : Write) → May makes members w (Issues n e ws acked v) → start.floor < e.number → Shows makes members start w s →
       Shows makes members start (after w (Issues n e ws acked v)) (history.after s (Issue e v))
   issues w s n e ws acked v may late ok = acts w s (history.after s (Issue e v)) n (Active e ws (Some v) []) (Told n (Issued (suc (length ws)) v) ∷ w.marks)
       (moved members start s (Issue e v) legal ok.sound) (grows members s (Issue e v) legal) refl refl refl f.held (record {
@@ -537,7 +537,7 @@ module _ (makes : List Write → Write → Type 0) (members : List ℕ) (start :
         where
           either : Has u (s.base e ++ s.log e) ⊎ Has u (v ∷ []) → IsKnown start next_state u
           either (inl g) = old_fits e (ok.sound.line.active_chosen e f.active) u g
-          either (inr (inl p)) = subst (IsKnown start next_state) (sym p) (inr (own_fits, subst (λ (t : Stamp). is_earlier start.epoch t.epoch ≡ true) (sym may.stamped) late))
+          either (inr (inl p)) = subst (IsKnown start next_state) (sym p) (inr (own_fits, subst (λ (t : Stamp). start.floor < t.epoch.number) (sym may.stamped) late))
           either (inr (inr g)) = absurd g
 
   commits : (w : World) (s : State) (n : ℕ) (e : Epoch) (ws : List Write) (v : Write) (acked : List ℕ) → May makes members w (Commits n e ws v acked) → Shows makes members start w s →
@@ -698,8 +698,19 @@ module _ (makes : List Write → Write → Type 0) (members : List ℕ) (start :
   pub held_is : (w : World) (s : State) (n : ℕ) (ws : List Write) (o : ℕ) (v : Option Stamp) (body : List ℕ) → Shows makes members start w s → Apart start → ((u : Write) → Has u ws → IsKnown start s u) →
       IsNamed ws (bodies_of ws) o v → IsHeld (w.held n) o v body → body ≡ bodies_of ws o
   held_is w s n ws o None body ok apart fit named held = held ∙ sym named
-  held_is w s n ws o (Some v) body ok apart fit named held = let b : BodyFits start s (record { object = o; version = v; bytes = body }) = ok.bodies n (record { object = o; version = v; bytes = body }) held in
-      sym b.is_bytes ∙ ap (λ (u : Write). u.body) (one_known start s b.update named.0 apart b.fits (fit named.0 named.1) (b.is_version ∙ sym named.3)) ∙ named.4
+  held_is w s n ws o (Some v) body ok apart fit named held = by (ok.bodies n b held)
+    where
+      b : Body
+      b = record { object = o; version = v; bytes = body }
+
+      -- a body of a write before is named where that write was taken over
+      old_is : Has b start.old → IsKnown start s named.0 → body ≡ bodies_of ws o
+      old_is old (inl h) = sym (apart.old_right b named.0 old h named.3) ∙ named.4
+      old_is old (inr k) = absurd (omega (arith, apart.old_older b old, k.1, ap (λ (t : Stamp). t.epoch.number) named.3))
+
+      by : BodyFits start s b → body ≡ bodies_of ws o
+      by (inl k) = sym k.is_bytes ∙ ap (λ (u : Write). u.body) (one_known start s k.update named.0 apart k.fits (fit named.0 named.1) (k.is_version ∙ sym named.3)) ∙ named.4
+      by (inr old) = old_is old (fit named.0 named.1)
 
   answers_read : (w : World) (s : State) (n : ℕ) (e : Epoch) (ws : List Write) (issued : Option Write) (acked : List ℕ) (o : ℕ) (body : List ℕ) → May makes members w (AnswersRead n e ws issued acked o body) → Apart start → Shows makes members start w s →
       Shows makes members start (after w (AnswersRead n e ws issued acked o body)) s
@@ -711,7 +722,7 @@ module _ (makes : List Write → Write → Type 0) (members : List ℕ) (start :
     primaries = ok.primaries;
     messages = ok.messages;
     acts = ok.acts;
-    answers = ((shows_all w s n e ws issued acked may.serves ok, held_is w s n ws o (version_of (versions_of ws) o) body ok apart fit (versions_named ws o may.low) may.held), ok.answers);
+    answers = ((shows_all w s n e ws issued acked may.serves ok, held_is w s n ws o (version_of (versions_of ws) o) body ok apart fit (versions_named ws o may.none) may.held), ok.answers);
     made = ok.made;
     fits = ok.fits;
     bodies = ok.bodies;
@@ -772,7 +783,7 @@ module _ (makes : List Write → Write → Type 0) (members : List ℕ) (start :
   in_state w (KeepsUpdate r v) may is = record {
     state = is.state;
     shows = keeps_body w is.state r (body_of v)
-        (record { update = v; fits = inr (is.shows.messages (Update v) may.0, is.late.updates v may.0); is_object = refl; is_version = refl; is_bytes = refl }) is.shows;
+        (inl (record { update = v; fits = inr (is.shows.messages (Update v) may.0, is.late.updates v may.0); is_object = refl; is_version = refl; is_bytes = refl })) is.shows;
   }
   in_state w (SendsBody r b) may is = record { state = is.state; shows = says w is.state (Piece b) (is.shows.bodies r b may) is.shows }
   in_state w (KeepsBody r b) may is = record { state = is.state; shows = keeps_body w is.state r b (is.shows.messages (Piece b) may) is.shows }
@@ -819,9 +830,9 @@ module _ (makes : List Write → Write → Type 0) (members : List ℕ) (start :
       sound = begun members start b.is;
       promised = λ r. refl;
       head = λ r. refl;
-      drawn = λ e h. subst (λ d. d.number ≤ (start.promised e.node.0).number) (sym (same_is e start.epoch h)) (b.promised e.node.0);
+      drawn = λ e h. subst (λ d. d.number ≤ (start.promised e.node.0).number) (sym (same_is e start.epoch h)) (omega (arith, b.own, b.promised e.node.0));
       primaries = λ n. tt;
-      messages = λ m h. absurd h;
+      messages = old_pieces start (rule.begin start) start.old (λ c h. h);
       acts = refl;
       answers = tt;
       made = λ e h. subst (AreMade makes) (sym (rw h)) b.made;
@@ -829,14 +840,14 @@ module _ (makes : List Write → Write → Type 0) (members : List ℕ) (start :
       bodies = λ r body h. at r body (has_body body (take (start.holds r) (start.line ++ start.open_writes)) h);
     };
     late = record {
-      apart = record { older = b.older; apart = b.apart };
+      apart = record { older = b.older; apart = b.apart; old_older = b.old_older; old_right = b.old_right };
       nodes = λ r. record { floor = b.promised r; later = λ e p. absurd cc; stamped = tt };
-      updates = λ v h. absurd h;
+      updates = λ v h. absurd (no_updates start.old v h);
     };
   }
     where
       at : (r : ℕ) (body : Body) → (u : Write) × Has u (take (start.holds r) (start.line ++ start.open_writes)) × (body ≡ body_of u) → BodyFits start (rule.begin start) body
-      at r body f = subst (BodyFits start (rule.begin start)) (sym f.2) (record { update = f.0; fits = inl (has-front f.0 (start.holds r) (start.line ++ start.open_writes) f.1); is_object = refl; is_version = refl; is_bytes = refl })
+      at r body f = subst (BodyFits start (rule.begin start)) (sym f.2) (inl (record { update = f.0; fits = inl (has-front f.0 (start.holds r) (start.line ++ start.open_writes) f.1); is_object = refl; is_version = refl; is_bytes = refl }))
 
   -- the writes of the line are made in order
   pub line_made : (w : World) → IsShown makes members start w → AreMade makes (line_at start w.marks)

@@ -91,6 +91,8 @@ module _ (stripe : ℕ) (ops : ℕ × ℕ → Op) (members : List ℕ) (n : ℕ)
   one_same l heads.Loses may m ne = loses_same l.holder m ne
   one_same l (heads.Cuts sent) may m ne = same_holder l.holder m
   one_same l (heads.StoresList location) may m ne = same_holder l.holder m
+  one_same l (heads.StoresElse k) may m ne = same_holder l.holder m
+  one_same l (heads.Raises e) may m ne = same_holder l.holder m
   one_same l (heads.Gathers e) may m ne = same_holder l.holder m
   one_same l (heads.TakesHead e h) may m ne = same_holder l.holder m
   one_same l (heads.TakesUpdate u) may m ne = same_holder l.holder m
@@ -164,6 +166,8 @@ module _ (stripe : ℕ) (ops : ℕ × ℕ → Op) (members : List ℕ) (n : ℕ)
   one_before l heads.Loses may m ne = same_before l m
   one_before l (heads.Cuts sent) may m ne = λ e h k. may (Status m e h) k
   one_before l (heads.StoresList location) may m ne = same_before l m
+  one_before l (heads.StoresElse k) may m ne = same_before l m
+  one_before l (heads.Raises e) may m ne = same_before l m
   one_before l (heads.Gathers e) may m ne = acted_before l (gathered l.node.kept.file l.node.kept.head e) m ne
   one_before l (heads.TakesHead e h) may m ne = acted_before l (headed l.node.kept.file l.node.kept.head l.node.kept.held e h) m ne
   one_before l (heads.TakesUpdate u) may m ne = acted_before l (updated l.node.kept.file l.node.kept.head u) m ne

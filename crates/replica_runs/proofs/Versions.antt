@@ -1,5 +1,5 @@
 -- What a head's versions name: the bodies of its writes.
-use Rattle.std.proofs.Common.{◌≡◌, ◌≢◌, ℕ, suc, ◌<◌, inl, inr, List, [], ◌∷◌, ◌++◌, length, refl, ap, ap₂, sym, ◌∙◌, subst, subst₂, arith, ◌==◌, if◌then◌else◌, append_assoc, append-nil, length-append, Option, Some, None}
+use Rattle.std.proofs.Common.{◌≡◌, ◌≢◌, ℕ, suc, inl, inr, List, [], ◌∷◌, ◌++◌, length, refl, ap, ap₂, sym, ◌∙◌, subst, subst₂, arith, ◌==◌, if◌then◌else◌, append_assoc, append-nil, length-append, Option, Some, None}
 use Rattle.std.specs.Prelude.{nat_lt}
 use Rattle.std.proofs.lemmas.Bool.{cases_eq}
 use Rattle.xt_base.specs.declared.ids.Epoch.{Epoch}
@@ -73,17 +73,33 @@ pub version_next : (vs : List ObjectVersion) (u : Update) (o : ℕ) → o ≢ u.
 version_next vs u o ne = by_equal (λ b. version_of (if b then versions_below vs u.drop_from else with_version (versions_below vs u.drop_from) u.object u.stamp) o ≡ (if nat_lt o u.drop_from then version_of vs o else None)) u.object NO_OBJECT
     (λ _. version_below vs u.drop_from o) (λ _. version_other (versions_below vs u.drop_from) u.object o u.stamp (λ e. ne (sym e)) ∙ version_below vs u.drop_from o)
 
-pub version_here : (vs : List ObjectVersion) (u : Update) → u.object < NO_OBJECT →
+pub version_here : (vs : List ObjectVersion) (u : Update) → u.object ≢ NO_OBJECT →
     version_of (if u.object == NO_OBJECT then versions_below vs u.drop_from else with_version (versions_below vs u.drop_from) u.object u.stamp) u.object ≡ Some u.stamp
-version_here vs u l = by_equal (λ b. version_of (if b then versions_below vs u.drop_from else with_version (versions_below vs u.drop_from) u.object u.stamp) u.object ≡ Some u.stamp) u.object NO_OBJECT
-    (λ e. absurd (omega arith)) (λ _. version_put (versions_below vs u.drop_from) u.object u.stamp)
+version_here vs u ne = by_equal (λ b. version_of (if b then versions_below vs u.drop_from else with_version (versions_below vs u.drop_from) u.object u.stamp) u.object ≡ Some u.stamp) u.object NO_OBJECT
+    (λ e. absurd (ne e)) (λ _. version_put (versions_below vs u.drop_from) u.object u.stamp)
 
-named_push : (us : List Update) (u : Update) (o : ℕ) → o < NO_OBJECT → IsNamed us (bodies_of us) o (version_of (versions_of us) o) →
+-- no version names the number that stands for no object
+pub version_none : (vs : List ObjectVersion) (u : Update) → version_of vs NO_OBJECT ≡ None →
+    version_of (if u.object == NO_OBJECT then versions_below vs u.drop_from else with_version (versions_below vs u.drop_from) u.object u.stamp) NO_OBJECT ≡ None
+version_none vs u none = by_equal (λ b. version_of (if b then versions_below vs u.drop_from else with_version (versions_below vs u.drop_from) u.object u.stamp) NO_OBJECT ≡ None) u.object NO_OBJECT
+    (λ _. below) (λ ne. version_other (versions_below vs u.drop_from) u.object NO_OBJECT u.stamp ne ∙ below)
+  where
+    below : version_of (versions_below vs u.drop_from) NO_OBJECT ≡ None
+    below = version_below vs u.drop_from NO_OBJECT ∙ by_less (λ b. (if b then version_of vs NO_OBJECT else None) ≡ None) NO_OBJECT u.drop_from (λ _. none) (λ _. refl)
+
+none_from : (head : FileHead) (us : List Update) → version_of head.versions NO_OBJECT ≡ None → version_of (folded head us).versions NO_OBJECT ≡ None
+none_from head [] none = none
+none_from head (u ∷ us) none = none_from (head_after head u) us (version_none head.versions u none)
+
+pub no_version : (us : List Update) → version_of (versions_of us) NO_OBJECT ≡ None
+no_version us = none_from new_head us refl
+
+named_push : (us : List Update) (u : Update) (o : ℕ) → o ≢ NO_OBJECT → IsNamed us (bodies_of us) o (version_of (versions_of us) o) →
     IsNamed (us ++ u ∷ []) (bodies_of (us ++ u ∷ [])) o (version_of (versions_of (us ++ u ∷ [])) o)
-named_push us u o low n = subst₂ (λ (h : FileHead) b. IsNamed (us ++ u ∷ []) b o (version_of h.versions o)) (sym (folded_push new_head us u)) (sym (bodies_push no_bodies us u))
+named_push us u o real n = subst₂ (λ (h : FileHead) b. IsNamed (us ++ u ∷ []) b o (version_of h.versions o)) (sym (folded_push new_head us u)) (sym (bodies_push no_bodies us u))
     (elim (cases_eq o u.object) as (λ w. IsNamed (us ++ u ∷ []) (bodies_after (bodies_of us) u) o (version_of (head_after (folded new_head us) u).versions o)) [
       | inl e ↦ subst (λ k. IsNamed (us ++ u ∷ []) (bodies_after (bodies_of us) u) k (version_of (head_after (folded new_head us) u).versions k)) (sym e)
-          (subst (IsNamed (us ++ u ∷ []) (bodies_after (bodies_of us) u) u.object) (sym (version_here (versions_of us) u (subst (λ k. k < NO_OBJECT) e low)))
+          (subst (IsNamed (us ++ u ∷ []) (bodies_after (bodies_of us) u) u.object) (sym (version_here (versions_of us) u (subst (λ k. k ≢ NO_OBJECT) e real)))
           (u, has-right u us (u ∷ []) (inl refl), refl, refl, sym (at_object (bodies_of us) u u.object refl)))
       | inr ne ↦ subst (IsNamed (us ++ u ∷ []) (bodies_after (bodies_of us) u) o) (sym (version_next (versions_of us) u o ne))
           (by_less (λ b. IsNamed (us ++ u ∷ []) (bodies_after (bodies_of us) u) o (if b then version_of (versions_of us) o else None)) o u.drop_from
@@ -91,10 +107,13 @@ named_push us u o low n = subst₂ (λ (h : FileHead) b. IsNamed (us ++ u ∷ []
           (λ l. dropped (bodies_of us) u o ne l))
     ])
 
-named_all : (done us : List Update) (o : ℕ) → o < NO_OBJECT → IsNamed done (bodies_of done) o (version_of (versions_of done) o) → IsNamed (done ++ us) (bodies_of (done ++ us)) o (version_of (versions_of (done ++ us)) o)
-named_all done [] o low n = subst (λ l. IsNamed l (bodies_of l) o (version_of (versions_of l) o)) (sym (append-nil done)) n
-named_all done (u ∷ us) o low n = subst (λ l. IsNamed l (bodies_of l) o (version_of (versions_of l) o)) (append_assoc done (u ∷ []) us) (named_all (done ++ u ∷ []) us o low (named_push done u o low n))
+named_all : (done us : List Update) (o : ℕ) → o ≢ NO_OBJECT → IsNamed done (bodies_of done) o (version_of (versions_of done) o) → IsNamed (done ++ us) (bodies_of (done ++ us)) o (version_of (versions_of (done ++ us)) o)
+named_all done [] o real n = subst (λ l. IsNamed l (bodies_of l) o (version_of (versions_of l) o)) (sym (append-nil done)) n
+named_all done (u ∷ us) o real n = subst (λ l. IsNamed l (bodies_of l) o (version_of (versions_of l) o)) (append_assoc done (u ∷ []) us) (named_all (done ++ u ∷ []) us o real (named_push done u o real n))
 
--- The head of these writes names for each object the write that made its body.
-pub versions_named : (us : List Update) (o : ℕ) → o < NO_OBJECT → IsNamed us (bodies_of us) o (version_of (versions_of us) o)
-versions_named us o low = named_all [] us o low refl
+-- The head of these writes names for each object the write that made its body; and none for the number that stands for no object.
+pub versions_named : (us : List Update) (o : ℕ) → (o ≡ NO_OBJECT → bodies_of us o ≡ []) → IsNamed us (bodies_of us) o (version_of (versions_of us) o)
+versions_named us o none = elim (cases_eq o NO_OBJECT) as (λ w. IsNamed us (bodies_of us) o (version_of (versions_of us) o)) [
+  | inl e ↦ subst (IsNamed us (bodies_of us) o) (sym (ap (version_of (versions_of us)) e ∙ no_version us)) (none e)
+  | inr real ↦ named_all [] us o real refl
+]

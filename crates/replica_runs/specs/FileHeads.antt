@@ -1,7 +1,7 @@
 -- The head that a replica keeps, as a function of what it promised, the epoch in which it took its writes, and these writes.
-use Rattle.std.specs.Prelude.{ℕ, ◌==◌, if◌then◌else◌, List, [], ◌∷◌, length}
+pub use Rattle.replica_safety.specs.Epochs.{Body}
+use Rattle.std.specs.Prelude.{◌==◌, if◌then◌else◌, List, [], ◌∷◌, length}
 use Rattle.xt_base.specs.declared.ids.Epoch.{Epoch}
-use Rattle.xt_base.specs.declared.ids.Stamp.{Stamp}
 use Rattle.xt_messages.specs.declared.file.FileHead.{FileHead}
 use Rattle.xt_messages.specs.declared.file.ObjectVersion.{ObjectVersion}
 use Rattle.xt_messages.specs.declared.file.Update.{Update}
@@ -20,12 +20,6 @@ head_of promised epoch us =
 -- The versions of these writes.
 abbrev pub versions_of : List Update → List ObjectVersion
 versions_of us = (folded new_head us).versions
-
--- A body of an object's version.
-pub record Body : Type 0 where
-  pub object : ℕ
-  pub version : Stamp
-  pub bytes : List ℕ
 
 abbrev pub body_of : Update → Body
 body_of u = record { object = u.object; version = u.stamp; bytes = u.body }

@@ -1,8 +1,8 @@
 -- What may happen in a world of heads: the small steps of one node, which the rows of an OSD are made of. The rows of its replica
 -- are the OSD's own functions. A row that is stopped or cut is a row of which not all is sent, and then a loss.
-use Rattle.std.specs.Prelude.{◌≡◌, ℕ, ◌+◌, ◌<◌, ◌≤◌, ◌==◌, if◌then◌else◌, Bool, true, false, List, [], ◌∷◌, ◌++◌, is_some, Option, None, Some}
-use Rattle.xt_messages.specs.Limits.{FitsOp}
-use Rattle.xt_base.specs.declared.TheConstants.{NO_OBJECT, OBJECTS}
+use Rattle.std.specs.Prelude.{◌≡◌, ℕ, ◌+◌, ◌≤◌, ◌==◌, if◌then◌else◌, Bool, true, false, List, [], ◌∷◌, ◌++◌, is_some, Option, None, Some}
+use Rattle.xt_messages.specs.Limits.{FitsOp, IsObject}
+use Rattle.xt_base.specs.declared.TheConstants.{OBJECTS}
 use Rattle.xt_base.specs.declared.ids.Epoch.{Epoch}
 use Rattle.xt_base.specs.declared.ids.OpId.{OpId}
 use Rattle.xt_base.specs.declared.ids.Stamp.{Stamp}
@@ -12,10 +12,11 @@ use Rattle.xt_messages.specs.declared.file.ObjectVersion.{ObjectVersion}
 use Rattle.xt_messages.specs.declared.file.Op.{Op}
 use Rattle.xt_messages.specs.declared.file.Session.{Session}
 use Rattle.xt_messages.specs.declared.file.Update.{Update}
+use Rattle.xt_messages.specs.declared.record.FileRow.{FileRow}
 use Rattle.xt_protocol.specs.Folds as folds
 use Rattle.xt_protocol.specs.Heads.{version_of, session_of}
 use Rattle.xt_protocol.specs.Objects.{present_body}
-use Rattle.xt_protocol.specs.Stamps.{is_below, has_version}
+use Rattle.xt_protocol.specs.Stamps.{is_earlier, is_below, has_version}
 use Rattle.xt_protocol.specs.declared.states.Acted.{Acted}
 use Rattle.xt_protocol.specs.AskRows.{leaves_object}
 use Rattle.xt_protocol.specs.PrimaryRows.{body_beyond, epoch_above}
@@ -39,6 +40,10 @@ pub data Step : Type 0 where
   Cuts : (sent : List Message) → Step
   -- the list is stored
   StoresList : (location : Location) → Step
+  -- what is kept besides the head and the bodies changes
+  StoresElse : (kept : FileRow) → Step
+  -- a greater epoch is promised, and nothing is answered
+  Raises : (epoch : Epoch) → Step
   -- rows of a replica
   Gathers : (epoch : Epoch) → Step
   TakesHead : (epoch : Epoch) → (head : FileHead) → Step
@@ -123,6 +128,15 @@ after n l Loses = record (with_primary l Idle) { holder = without n l.holder }
 after n l (Cuts sent) = record l { sent = sent }
 after n l (StoresList location) =
     record l { node = record { kept = record l.node.kept { location = Some location }; body = l.node.body; primary = l.node.primary } }
+after n l (StoresElse kept) = record l { node = record { kept = kept; body = l.node.body; primary = l.node.primary } }
+after n l (Raises e) =
+    record l {
+      node = record {
+        kept = record l.node.kept { head = record l.node.kept.head { promised = e } };
+        body = l.node.body;
+        primary = l.node.primary;
+      };
+    }
 after n l (Gathers e) = with_acted n l (gathered l.node.kept.file l.node.kept.head e)
 after n l (TakesHead e h) = with_acted n l (headed l.node.kept.file l.node.kept.head l.node.kept.held e h)
 after n l (TakesUpdate u) = with_acted n l (updated l.node.kept.file l.node.kept.head u)
@@ -201,6 +215,8 @@ May stripe ops members n l Gains = l.holder ≡ None
 May stripe ops members n l Loses = Unit {0}
 May stripe ops members n l (Cuts sent) = (m : Message) → Has m sent → Has m l.sent
 May stripe ops members n l (StoresList location) = Unit {0}
+May stripe ops members n l (StoresElse kept) = (kept.head ≡ l.node.kept.head) × (kept.held ≡ l.node.kept.held)
+May stripe ops members n l (Raises e) = is_earlier l.node.kept.head.promised e ≡ true
 May stripe ops members n l (Gathers e) = Has (Gather e) l.sent
 May stripe ops members n l (TakesHead e h) = Has (Head e h) l.sent
 May stripe ops members n l (TakesUpdate u) = Has (UpdateSent u) l.sent
@@ -226,7 +242,7 @@ May stripe ops members n l (SendsUpdate e c u acked) = l.node.primary ≡ Active
 May stripe ops members n l (CountsUpdated e c u acked r t) =
     (l.node.primary ≡ Active e c (Some u) acked) × Has (Ack r t) l.sent × (t.epoch ≡ e) × (is_below t u.stamp ≡ false)
 May stripe ops members n l (Commits e c u acked) = (l.node.primary ≡ Active e c (Some u) acked) × IsMost members acked × (acked n ≡ true)
-May stripe ops members n l (AnswersRead e c issued acked o) = (l.node.primary ≡ Active e c issued acked) × (o < NO_OBJECT)
+May stripe ops members n l (AnswersRead e c issued acked o) = (l.node.primary ≡ Active e c issued acked) × IsObject o
 May stripe ops members n l (AnswersRepeated e c issued acked client s) =
     (l.node.primary ≡ Active e c issued acked) × (session_of c.sessions client ≡ Some s)
 

@@ -106,11 +106,21 @@ pub record BodiesAre (kept : FileRow) (body : ℕ → Stamp → List ℕ) (held 
 abbrev pub has_at : Start → ℕ → List Update
 has_at start r = take (start.holds r) (start.line ++ start.open_writes)
 
--- A world in which this version of the list begins: each node has the head and the bodies of its writes.
+-- a body of a write before this version
+abbrev pub IsOldPiece : List Body → Message → Type 0
+IsOldPiece old (Piece object version bytes) = Has (record { object = object; version = version; bytes = bytes }) old
+IsOldPiece old (Gather epoch) = ⊥
+IsOldPiece old (Status replica epoch head) = ⊥
+IsOldPiece old (Head epoch head) = ⊥
+IsOldPiece old (UpdateSent update) = ⊥
+IsOldPiece old (Ack replica stamp) = ⊥
+
+-- A world in which this version of the list begins: each node has the head and the bodies of its writes, and nothing was sent but bodies
+-- of writes before.
 pub record BeginsAt (start : Start) (w : World) : Type 0 where
   pub head : (r : ℕ) → (w.nodes r).kept.head ≡ head_of (start.promised r) start.epoch (has_at start r)
   pub bodies : (r : ℕ) → BodiesAre (w.nodes r).kept (w.nodes r).body (bodies_in (has_at start r))
   pub idle : (r : ℕ) → (w.nodes r).primary ≡ Idle
   pub free : w.holder ≡ None
-  pub silent : w.sent ≡ []
+  pub silent : (m : Message) → Has m w.sent → IsOldPiece start.old m
   pub untold : w.entries ≡ []

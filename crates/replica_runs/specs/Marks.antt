@@ -1,9 +1,7 @@
 -- What the marks report: one line of writes, and answers that show it.
 use Rattle.std.specs.Prelude.{◌≡◌, ℕ, pred, ◌≤◌, List, [], ◌∷◌, ◌++◌, slice_get, Some}
 use Rattle.xt_messages.specs.declared.file.Op.{Op}
-use Rattle.std.specs.Prelude.{false}
-use Rattle.xt_protocol.specs.Stamps.{is_earlier}
-use Rattle.replica_safety.specs.Epochs.{Write, name}
+use Rattle.replica_safety.specs.Epochs.{Write, name, Body}
 use Rattle.replica_runs.specs.Made.{IsMade, bodies_of}
 use Rattle.replica_safety.specs.Lists.{Has}
 use Rattle.replica_safety.specs.Protocol.{Act}
@@ -41,11 +39,15 @@ AreMade makes ws = AreMadeAfter makes [] ws
 -- A version of a list that may begin: who stores it has promised its epoch, and its writes are made in order.
 pub record Begins (makes : List Write → Write → Type 0) (members : List ℕ) (start : Start) : Type 0 where
   pub is : IsStart members start
-  pub promised : (r : ℕ) → start.epoch.number ≤ (start.promised r).number
+  pub promised : (r : ℕ) → start.floor ≤ (start.promised r).number
+  pub own : start.epoch.number ≤ start.floor
   -- what it takes over is of no later epoch, and each stamp is of one write
-  pub older : (u : Write) → Has u (start.line ++ start.open_writes) → is_earlier start.epoch u.stamp.epoch ≡ false
+  pub older : (u : Write) → Has u (start.line ++ start.open_writes) → u.stamp.epoch.number ≤ start.floor
   pub apart : (u v : Write) → Has u (start.line ++ start.open_writes) → Has v (start.line ++ start.open_writes) → u.stamp ≡ v.stamp → u ≡ v
   pub made : AreMade makes (start.line ++ start.open_writes)
+  -- bodies of other writes that nodes may still have are of no later epoch; and one of the stamp of a write that it takes over has its bytes
+  pub old_older : (b : Body) → Has b start.old → b.version.epoch.number ≤ start.floor
+  pub old_right : (b : Body) (u : Write) → Has b start.old → Has u (start.line ++ start.open_writes) → u.stamp ≡ b.version → u.body ≡ b.bytes
 
 -- P holds of the marks after every run.
 abbrev pub Always : (ℕ → (ℕ × ℕ → Op) → Start → List Mark → Type 0) → Type 0

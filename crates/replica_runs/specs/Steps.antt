@@ -9,6 +9,7 @@ use Rattle.replica_safety.specs.Rules.{Start}
 use Rattle.xt_base.specs.declared.TheConstants.{NO_OBJECT}
 use Rattle.xt_protocol.specs.Heads.{version_of}
 use Rattle.replica_runs.specs.FileHeads.{Body, body_of, bodies_in, versions_of}
+use Rattle.replica_runs.specs.Made.{bodies_of}
 use Rattle.replica_runs.specs.World.{Counted, Primary, Idle, Gathering, Installing, Active, epoch_of, Node, Message, Gather, Status, Install, Update, Ack, Piece, Mark, Told, ShowsRead, ShowsWrite, World, among, counted_from, IsMost}
 
 pub data Step : Type 0 where
@@ -131,8 +132,8 @@ abbrev pub May : (List Write → Write → Type 0) → List ℕ → World → St
 -- the leases let one node in at a time
 May makes members w (Gains n) = w.holder ≡ None
 May makes members w (Loses n) = Unit {0}
+-- whoever asked for it
 May makes members w (Promises r e) = record {
-  asked : Has (Gather e) w.messages;
   above : is_earlier (w.nodes r).promised e ≡ true;
 }
 May makes members w (SendsStatus r e) = record {
@@ -215,7 +216,8 @@ May makes members w (Commits n e ws v acked) = record {
 }
 May makes members w (AnswersRead n e ws issued acked o body) = record {
   serves : (w.nodes n).primary ≡ Active e ws issued acked;
-  low : o < NO_OBJECT;
+  -- the number that stands for no object has no body
+  none : o ≡ NO_OBJECT → bodies_of ws o ≡ [];
   held : IsHeld (w.held n) o (version_of (versions_of ws) o) body;
 }
 May makes members w (AnswersWrite n e ws issued acked place v) = record {
@@ -243,6 +245,6 @@ begin start = record {
   };
   holder = None;
   held = λ r. bodies_in (take (start.holds r) (start.line ++ start.open_writes));
-  messages = [];
+  messages = map Piece start.old;
   marks = [];
 }

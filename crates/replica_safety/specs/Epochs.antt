@@ -24,6 +24,12 @@ pub record Head : Type 0 where
   pub epoch : Epoch
   pub writes : List Write
 
+-- A body of an object's version.
+pub record Body : Type 0 where
+  pub object : ℕ
+  pub version : Stamp
+  pub bytes : List ℕ
+
 abbrev pub stamp_of : Head → Stamp
 stamp_of h = record { epoch = h.epoch; count = length h.writes }
 

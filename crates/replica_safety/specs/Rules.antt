@@ -1,7 +1,7 @@
 -- When a move is allowed, and from where a history begins.
 use Rattle.std.specs.Prelude.{◌≡◌, ℕ, suc, ◌<◌, ◌≤◌, Bool, true, false, List, [], ◌∷◌, ◌++◌, length, map, take, None, Some}
 use Rattle.xt_protocol.specs.Stamps.{is_earlier, is_epoch}
-use Rattle.replica_safety.specs.Epochs.{Epoch, Stamp, Below, AtMost, Write, name, Head, stamp_of, at_epoch}
+use Rattle.replica_safety.specs.Epochs.{Epoch, Stamp, Below, AtMost, Write, name, Head, Body, stamp_of, at_epoch}
 use Rattle.replica_safety.specs.Lists.{Has, AreDistinct, Majority}
 use Rattle.replica_safety.specs.Protocol.{Reported, Acknowledged, State, writes_of, Move, Draw, Promise, Report, Choose, Take_head, Take_update, Acknowledge, Activate, Issue, Commit, Lose, after}
 
@@ -153,6 +153,9 @@ pub record Start : Type 0 where
   -- of a replica: the epoch that it has promised, and how many of these writes it has
   pub promised : ℕ → Epoch
   pub holds : ℕ → ℕ
+  -- no epoch with this number or a smaller one is drawn from here on; and bodies of writes before that nodes may still have
+  pub floor : ℕ
+  pub old : List Body
 
 -- Replicas may differ at the start, and some may have less than the line.
 pub record IsStart (members : List ℕ) (start : Start) : Type 0 where
@@ -186,6 +189,8 @@ first_start = record {
   open_writes = [];
   promised = λ r. record { number = 0; node = record { 0 = 0 } };
   holds = λ r. 0;
+  floor = 0;
+  old = [];
 }
 
 -- A history: moves from a start, each allowed when it comes.

@@ -39,10 +39,10 @@ pub record FitsInHead (update : Update) : Type 0 where
   pub gets : IsObjectOrNone update.object
 
 -- an object below the last number, where there is one
-small : (update : Update) → IsObjectOrNone update.object → (update.object == NO_OBJECT) ≡ false → update.object < 2 ^ 32
+small : (update : Update) → IsObjectOrNone update.object → (update.object == NO_OBJECT) ≡ false → update.object < 2 ^ 64
 small update gets some = at gets
   where
-    at : (update.object < 2 ^ 32 - 1) ⊎ (update.object ≡ NO_OBJECT) → update.object < 2 ^ 32
+    at : (update.object < 2 ^ 64 - 1) ⊎ (update.object ≡ NO_OBJECT) → update.object < 2 ^ 64
     at (inl below) = omega arith
     at (inr none) = absurd (let same : (update.object == NO_OBJECT) ≡ true = eq-eqb update.object NO_OBJECT none in cc (same, some))
 

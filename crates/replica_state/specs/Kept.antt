@@ -1,5 +1,5 @@
 -- what a replica keeps of its file
-use Rattle.std.specs.Prelude.{None, List, IsTrue}
+use Rattle.std.specs.Prelude.{ℕ, Option, None, List, IsTrue}
 use Rattle.xt_base.specs.declared.ids.FileId.{FileId}
 use Rattle.xt_messages.specs.declared.file.ObjectVersion.{ObjectVersion}
 use Rattle.xt_messages.specs.declared.file.FileHead.{FileHead}
@@ -10,8 +10,8 @@ use Rattle.xt_messages.specs.Limits.{FitsEpoch, FitsHead, is_at_most}
 use Rattle.xt_protocol.specs.Heads.{head_after}
 
 -- without where its content is kept
-abbrev pub kept_row : FileId → FileHead → List ObjectVersion → FileRow
-kept_row file head held = record { file = file; head = head; held = held; location = None }
+abbrev pub kept_row : FileId → FileHead → List ObjectVersion → Option ℕ → FileRow
+kept_row file head held closed = record { file = file; head = head; held = held; location = None; closed = closed }
 
 -- What is noted in a replica: a promise that isn't below the one before, a body, a head within its limits, or an update whose head is
 -- within its limits.

@@ -23,6 +23,7 @@ pub struct Replica {
     file: FileId,
     head: FileHead,
     held: HeldSet,
+    closed: Option<u32>,
 }
 
 impl Model for Replica {
@@ -32,22 +33,30 @@ impl Model for Replica {
 
     ghost Value = { FileRow };
 
-    ghost view = { λ r. record { file = r.file; head = r.head; held = r.held; location = None } };
+    ghost view = { λ r. record { file = r.file; head = r.head; held = r.held; location = None; closed = r.closed } };
 
     ghost invariant = { λ r. FitsHead r.head };
 }
 
 impl Replica {
-    /// The replica that keeps this head and holds these bodies, as records within their limits and in their places fold.
-    pub fn new(alloc: Global, file: FileId, head: FileHead, held: HeldSet) -> Replica
+    /// The replica that keeps this head, holds these bodies and has closed this list, as records within their limits and in their
+    /// places fold.
+    pub fn new(
+        alloc: Global,
+        file: FileId,
+        head: FileHead,
+        held: HeldSet,
+        closed: Option<u32>,
+    ) -> Replica
         requires { FitsHead head }
-        ensures { result ≡ kept_row file head held }
+        ensures { result ≡ kept_row file head held closed }
     {
         Replica {
             alloc,
             file,
             head,
             held,
+            closed,
         }
     }
 
@@ -215,6 +224,7 @@ impl Copies for Replica {
             held: HeldSet {
                 versions: self.held.versions.clone()?,
             },
+            closed: self.closed,
         })
     }
 }

@@ -20,7 +20,7 @@ fn digit(byte: u8) -> Option<u8>
 
 /// The bytes of a text in lower-case hex. All that isn't a digit is passed over.
 pub fn hex(alloc: Global, text: &str) -> Result<Octets, OutOfMemory> {
-    let mut bytes = Octets::new(alloc);
+    let mut bytes = Vec::new(alloc);
     let mut high = None;
     for byte in text.as_bytes() {
         let Some(low) = digit(*byte) else {
@@ -34,7 +34,7 @@ pub fn hex(alloc: Global, text: &str) -> Result<Octets, OutOfMemory> {
             }
         }
     }
-    Ok(bytes)
+    Octets::from_vec(bytes)
 }
 
 /// The first of these bytes, so many at most.
@@ -46,16 +46,16 @@ pub fn front(bytes: &[u8], count: usize) -> &[u8] {
 pub fn joined(alloc: Global, first: &[u8], second: &[u8]) -> Result<Octets, OutOfMemory> {
     let mut bytes = Vec::from_slice(alloc, first)?;
     bytes.extend_from_slice(second)?;
-    Ok(Octets::from(bytes))
+    Octets::from_vec(bytes)
 }
 
 /// These bytes with the one at a place changed in the bits of the mask, if there is one.
 pub fn changed(alloc: Global, bytes: &[u8], at: usize, mask: u8) -> Result<Octets, OutOfMemory> {
-    let mut made = Octets::new(alloc);
+    let mut made = Vec::new(alloc);
     for (place, byte) in bytes.iter().enumerate() {
         made.push(if place == at { *byte ^ mask } else { *byte })?;
     }
-    Ok(made)
+    Octets::from_vec(made)
 }
 
 /// Numbers that look drawn: the same ones from the same seed.

@@ -88,7 +88,7 @@ fn nodes_have_damaged_disks(rt: HostRuntime) {
 /// A request of an OSD to the directory service, its fourth message, in one part: the rows of kind 1 after node 0.
 const FOURTH: &str = "
     01 00000001 0000000000000001 0000000000000004 00 01 0000001c
-    0000001c 01 16 00000001 00000384 0000000000000000 03 01 00000000";
+    0000001c 02 16 00000001 00000384 0000000000000000 03 01 00000000";
 
 /// Whether these datagrams are this one alone.
 fn is_alone(sent: &[Datagram], bytes: &Octets) -> bool {

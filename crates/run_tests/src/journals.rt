@@ -109,7 +109,7 @@ static DAMAGED: [(&str, Loading); 15] = [
         Loading::BadRecord(0),
     ),
     (
-        "58544653 4a524e4c 00000001 a5 00000009 09 0000000000000001 00",
+        "58544653 4a524e4c 00000001 a5 00000009 14 0000000000000001 00",
         Loading::BadRecord(0),
     ),
     // a superblock's kind, without a superblock's length

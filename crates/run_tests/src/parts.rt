@@ -63,7 +63,7 @@ static ALONE: [(&str, Taken); 18] = [
         "02 0000000a 0000000000000001 0000000000000001 00 01 00000003 616161",
         Taken::BadPart,
     ),
-    // lengths out of their range: none, with one part and with no part, and 262,145
+    // lengths out of their range: none, with one part and with no part, and 1,048,577
     (
         "01 0000000a 0000000000000001 0000000000000001 00 01 00000000",
         Taken::BadPart,
@@ -73,7 +73,7 @@ static ALONE: [(&str, Taken); 18] = [
         Taken::BadPart,
     ),
     (
-        "01 0000000a 0000000000000001 0000000000000001 08 09 00040001 61",
+        "01 0000000a 0000000000000001 0000000000000001 20 21 00100001 61",
         Taken::BadPart,
     ),
     // other totals than the length says
@@ -137,7 +137,8 @@ type Step = (u64, u8, u8, u32, usize, Taken);
 /// The bytes of a part.
 fn bytes_of(rt: &impl Abort, alloc: Global, step: &Step) -> Octets {
     let (number, index, total, length, payload, _) = *step;
-    let mut bytes = hex(alloc, "01 0000000a 0000000000000001").expect(rt, OTHERWISE);
+    let sender = hex(alloc, "01 0000000a 0000000000000001").expect(rt, OTHERWISE);
+    let mut bytes = Vec::from_slice(alloc, sender.as_slice()).expect(rt, OTHERWISE);
     for byte in &number.to_be_bytes() {
         bytes.push(*byte).expect(rt, OTHERWISE);
     }
@@ -149,7 +150,7 @@ fn bytes_of(rt: &impl Abort, alloc: Global, step: &Step) -> Octets {
     for _ in 0..payload {
         bytes.push(0x61).expect(rt, OTHERWISE);
     }
-    bytes
+    Octets::from_vec(bytes).expect(rt, OTHERWISE)
 }
 
 /// Takes parts one after the other, and asserts what each comes to.
@@ -161,8 +162,8 @@ fn take_all(rt: &impl Abort, alloc: Global, joiner: &mut Joiner, steps: &[Step])
     }
 }
 
-/// The greatest message has eight whole parts, and isn't refused.
-static GREATEST: [Step; 1] = [(1, 7, 8, 262_144, 32_768, Taken::Nothing)];
+/// The greatest message has 32 whole parts, and isn't refused.
+static GREATEST: [Step; 1] = [(1, 31, 32, 1_048_576, 32_768, Taken::Nothing)];
 
 /// A half joined message keeps its length, and takes each part once. After it was given, its parts begin it again.
 static REPEATED: [Step; 12] = [

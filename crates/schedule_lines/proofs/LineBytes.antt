@@ -145,6 +145,10 @@ meta_short (ask.Chmod path mode) spelled (fits, small) =
 meta_short (ask.Grant path want) spelled (fits, low, high) =
     let rest = path_short 9 (codes "grant") path (want_word want ∷ []) (omega arith) fits.few (one_short 0 8 (want_word want) [] (want_short want low high) none_short) in omega arith
 meta_short (ask.Report capability mark) never fits = absurd never
+meta_short (ask.Change path nodes) spelled (fits, members) =
+    let all = place_words 9 nodes (members_few nodes members.different) members.each in
+    let rest = path_short 369 (codes "change") path (node_words nodes) (omega arith) fits.few all.few in omega arith
+meta_short (ask.Locate path) spelled fits = let rest = path_short 0 (codes "locate") path [] (omega arith) fits.few none_short in omega arith
 
 registry_short : (wanted : RegistryReq) → IsSpellableWish wanted → FitsRegistryReq wanted → length (behind (registry_words wanted)) ≤ 386
 unfolding registry_words

@@ -17,7 +17,7 @@ use Rattle.xt_messages.specs.declared.status.AskRefusal.{AskRefusal}
 use Rattle.xt_messages.specs.declared.status.AskRefusal.TheVariants as refusal
 use Rattle.xt_messages.specs.declared.reply.Answered.{Answered}
 use Rattle.xt_base.specs.FieldLimits.{AreBytes}
-use Rattle.xt_messages.specs.Limits.{FitsLocation}
+use Rattle.xt_messages.specs.Limits.{FitsMembers, FitsLocation}
 use Rattle.time_line.specs.declared.entry.Entry.{Entry}
 use Rattle.time_line.specs.declared.entry.Entry.TheVariants as entry
 use Rattle.time_line.specs.declared.entry.Halt.{Halt}
@@ -31,12 +31,13 @@ use Rattle.server_text.specs.Spellable.{IsSpellableMeta, IsSpellableRegistry}
 use Rattle.server_text.proofs.AnswersAgain as answers
 use Rattle.server_text.proofs.AnswersAgain.{denial_again, denial_small}
 use Rattle.server_text.proofs.RequestsAgain.{meta_again, report_again, registry_again}
+use Rattle.server_text.proofs.ManyAgain.{members_again}
 use Rattle.server_text.proofs.WordsAgain.{IsWord, IsWord-tested, decimal-IsWord, number_again, number_at_again, first_again, others_again, hex-IsWord, hex_again, hex_or_dash-IsWord, hex_or_dash_again}
 use Rattle.schedule_text.specs.CallText.{call_name, call_words, file_words, IsSpellableCall}
 use Rattle.schedule_text.specs.OutcomeText.{ask_refusal_words, answer_words, outcome_words, IsSpellableOutcome}
 use Rattle.schedule_text.specs.EntryText.{update_words, halt_word, entry_words, entry_text, IsEntry}
 use Rattle.schedule_text.specs.LineText.{IsPlace}
-use Rattle.schedule_text.specs.EntryReading.{times_in, file_in, clock_in, tick_in, up_in, halt_of, down_in, call_of, call_on, file_call_in, call_in, begin_in, held_in, id_of, update_in, answer_in, refusal_of, refusal_in, outcome_in, done_in, node_entry, update_entry, entry_of, entry_at}
+use Rattle.schedule_text.specs.EntryReading.{times_in, file_in, list_in, clock_in, tick_in, up_in, halt_of, down_in, call_of, call_on, file_call_in, call_in, begin_in, held_in, id_of, update_in, answer_in, refusal_of, refusal_in, outcome_in, done_in, node_entry, update_entry, entry_of, entry_at}
 use Rattle.schedule_text.proofs.AnswersAgain.{answers_again}
 use Rattle.schedule_text.proofs.PlaceAgain.{place_again}
 
@@ -55,6 +56,16 @@ clock_again node clock p q =
 tick_again : (count : ℕ) → count < 2 ^ 64 → tick_in (spaced (decimal count ∷ [])) ≡ Some (entry.Tick count)
 unfolding tick_in
 tick_again count p = rw (number_at_again 64 count [] p (omega arith)) refl
+
+list_again : (number version : ℕ) (members : List NodeId) → number < 2 ^ 64 → version < 2 ^ 32 → FitsMembers members
+    → list_in (spaced (decimal number ∷ decimal version ∷ node_words members)) ≡ Some (entry.List number version members)
+unfolding list_in
+list_again number version members p q fits =
+    rw (
+      number_at_again 64 number (decimal version ∷ node_words members) p (omega arith),
+      number_at_again 32 version (node_words members) q (omega arith),
+      members_again members fits,
+    ) refl
 
 file_again : (number : ℕ) (location : Location) → number < 2 ^ 62 → IsPlace location → FitsLocation location → file_in (spaced (file_words number location)) ≡ Some (entry.File number location)
 unfolding file_in
@@ -280,6 +291,7 @@ entry_again (entry.Times lease drift) (is, fits) =
     let small : lease < 2 ^ 40 = fits.small in
     times_again lease drift (omega arith) (omega arith)
 entry_again (entry.File number location) (is, (p, fits)) = file_again number location p is fits
+entry_again (entry.List number version members) (is, (p, q, fits)) = list_again number version members (omega arith) (omega arith) fits
 entry_again (entry.Clock node clock) (is, (p, q)) = clock_again node clock p (omega arith)
 entry_again (entry.Tick count) (is, fits) = tick_again count (omega arith)
 entry_again (entry.Up node boot clock) (is, (p, q, r)) = up_again node boot clock p (omega arith) (omega arith)

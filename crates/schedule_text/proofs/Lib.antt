@@ -1,11 +1,10 @@
 pub use Rattle.server_text.proofs.InLine
+pub use Rattle.server_text.proofs.ManyAgain
 pub use Rattle.server_text.proofs.RequestsAgain
 pub use Rattle.server_text.proofs.WordsAgain
 pub mod AnswersAgain
 pub mod EntryAgain
 pub mod LineAgain
-pub mod ManyAgain
-pub mod NodeSteps
 pub mod PlaceAgain
 pub mod Trace
 pub mod TraceAgain

@@ -21,8 +21,7 @@ use Rattle.schedule_text.specs.CallText.{call_name, call_words, file_words, IsSp
 use Rattle.server_text.specs.Spellable.{IsSpellableRequest, IsSpellableWish}
 use Rattle.server_text.specs.Reading.{first_word, other_words}
 use Rattle.schedule_text.specs.LineReading.{times_at, osd_at, client_at, file_at, start_at, stop_at, crash_at, cut_at, clock_at, tick_at, wake_at, read_at, truncate_at, meta_at, registry_at, again_at, aim_at, write_at, deliver_at, drop_at, settle_at, declared_line, node_line, named_line, line_at}
-use Rattle.schedule_text.proofs.ManyAgain.{node_at_again}
-use Rattle.schedule_text.proofs.PlaceAgain.{place_again}
+use Rattle.schedule_text.proofs.PlaceAgain.{node_at_again, place_again}
 use Rattle.server_text.proofs.RequestsAgain.{meta_again, report_again, registry_again}
 use Rattle.server_text.proofs.WordsAgain.{number_at_again, first_again, hex-IsWord, hex_again, pair-IsWord, byte_again}
 

@@ -1,17 +1,24 @@
--- Where a file is, once written, is read.
+-- A node, and where a file is, once written, are read.
 use Rattle.std.proofs.Common.{◌≡◌, ℕ, ◌^◌, ◌<◌, ◌≤◌, List, ◌∷◌, Some, refl, sym, ap, ◌∙◌, arith}
 use Rattle.std.specs.Fmt.{decimal}
 use Rattle.xt_base.specs.declared.ids.NodeId.{NodeId}
 use Rattle.xt_messages.specs.declared.file.Kind.{Kind}
 use Rattle.xt_messages.specs.declared.file.Location.{Location}
-use Rattle.xt_messages.specs.Limits.{FitsLocation, FitsMembers}
+use Rattle.xt_messages.specs.Limits.{FitsNode, FitsLocation, FitsMembers}
 use Rattle.server_text.specs.Words.{spaced, node_words}
 use Rattle.server_text.specs.RequestText.{kind_word}
 use Rattle.schedule_text.specs.LineText.{IsPlace}
-use Rattle.schedule_text.specs.LineReading.{place_on, location_at}
-use Rattle.schedule_text.proofs.ManyAgain.{members_again}
+use Rattle.schedule_text.specs.LineReading.{node_at, place_on, location_at}
+use Rattle.server_text.proofs.ManyAgain.{members_again}
 use Rattle.server_text.proofs.RequestsAgain.{kind-IsWord, kind_again}
-use Rattle.server_text.proofs.WordsAgain.{number_at_again, first_again, others_again}
+use Rattle.server_text.proofs.WordsAgain.{decimal-IsWord, number_again, number_at_again, first_again, others_again}
+
+-- a node that was written is read
+pub node_at_again : (node : NodeId) (words : List (List ℕ)) → FitsNode node → node_at (spaced (decimal node.0 ∷ words)) ≡ (node, spaced words)
+unfolding node_at
+node_at_again node words small =
+    let w = decimal-IsWord node.0 (omega arith) in
+    rw (first_again (decimal node.0) words w, others_again (decimal node.0) words w, number_again 32 node.0 small (omega arith)) refl
 
 kept_again : (kind : Kind) (stripe : ℕ) (nodes : List NodeId) → stripe < 2 ^ 32 → FitsMembers nodes
     → location_at (spaced (kind_word kind ∷ decimal stripe ∷ node_words nodes)) ≡ Some (place_on kind stripe nodes)

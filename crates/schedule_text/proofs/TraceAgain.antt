@@ -78,6 +78,8 @@ entry_are (entry.Times lease drift) (is, fits) =
 entry_are (entry.File number location) (is, (p, fits)) =
     let most = fits.size.most in
     (IsWord-tested (codes "file") refl, (number-IsWord number (omega arith), (kind-IsWord location.kind, (number-IsWord location.stripe (omega arith), nodes-AreWords location.members fits.nodes.each))))
+entry_are (entry.List number version members) (is, (p, q, fits)) =
+    (IsWord-tested (codes "list") refl, (number-IsWord number (omega arith), (number-IsWord version (omega arith), nodes-AreWords members fits.each)))
 entry_are (entry.Clock node clock) (is, (p, q)) =
     (IsWord-tested (codes "clock") refl, (number-IsWord node.0 (omega arith), (number-IsWord clock (omega arith), tt)))
 entry_are (entry.Tick count) (is, fits) = (IsWord-tested (codes "tick") refl, (number-IsWord count (omega arith), tt))

@@ -17,7 +17,7 @@ use Rattle.time_line.specs.declared.entry.Entry.{Entry}
 use Rattle.time_line.specs.declared.entry.Entry.TheVariants as entry
 use Rattle.time_line.specs.declared.entry.Halt.{Halt}
 use Rattle.time_line.specs.declared.entry.Halt.TheVariants as halt
-use Rattle.server_text.specs.Reading.{first_word, other_words, number_of, number_at, each_word, bytes_of, node_of}
+use Rattle.server_text.specs.Reading.{first_word, other_words, number_of, number_at, each_word, bytes_of, node_of, members_at}
 use Rattle.server_text.specs.RequestReading.{meta_call_in, registry_call_in}
 use Rattle.server_text.specs.AnswerReading.{denial_of, meta_outcome_in, registry_outcome_in}
 use Rattle.schedule_text.specs.LineReading.{location_at}
@@ -59,6 +59,12 @@ unfoldable pub file_in : List ℕ → Option Entry
 file_in words =
     let number = number_at 64 words in
     option_map (λ location. entry.File number.0 location) (location_at number.1)
+
+unfoldable pub list_in : List ℕ → Option Entry
+list_in words =
+    let number = number_at 64 words in
+    let version = number_at 32 number.1 in
+    option_map (λ members. entry.List number.0 version.0 members) (members_at version.1)
 
 unfoldable pub clock_in : List ℕ → Option Entry
 clock_in words =
@@ -188,6 +194,7 @@ unfoldable pub node_entry : List ℕ → List ℕ → Option Entry
 node_entry name words =
     if bytes_eq name (codes "times") then times_in words
     else if bytes_eq name (codes "file") then file_in words
+    else if bytes_eq name (codes "list") then list_in words
     else if bytes_eq name (codes "clock") then clock_in words
     else if bytes_eq name (codes "tick") then tick_in words
     else if bytes_eq name (codes "up") then up_in words

@@ -9,7 +9,7 @@ use Rattle.time_line.specs.declared.entry.Entry.TheVariants as entry
 use Rattle.time_line.specs.declared.entry.Halt.{Halt}
 use Rattle.time_line.specs.declared.entry.Halt.TheVariants as halt
 use Rattle.time_line.specs.Bounds.{FitsEntry}
-use Rattle.server_text.specs.Words.{spaced, hex_or_dash}
+use Rattle.server_text.specs.Words.{spaced, hex_or_dash, node_words}
 use Rattle.schedule_text.specs.LineText.{IsPlace}
 use Rattle.schedule_text.specs.CallText.{file_words, call_name, call_words, IsSpellableCall}
 use Rattle.schedule_text.specs.OutcomeText.{outcome_words, IsSpellableOutcome}
@@ -30,6 +30,7 @@ halt_word halt.Cut = codes "cut"
 unfoldable pub entry_words : Entry → List (List ℕ)
 entry_words (entry.Times lease drift) = codes "times" ∷ decimal lease ∷ decimal drift ∷ []
 entry_words (entry.File number location) = codes "file" ∷ file_words number location
+entry_words (entry.List number version members) = codes "list" ∷ decimal number ∷ decimal version ∷ node_words members
 entry_words (entry.Clock node clock) = codes "clock" ∷ decimal node.0 ∷ decimal clock ∷ []
 entry_words (entry.Tick count) = codes "tick" ∷ decimal count ∷ []
 entry_words (entry.Up node boot clock) = codes "up" ∷ decimal node.0 ∷ decimal boot.0 ∷ decimal clock ∷ []

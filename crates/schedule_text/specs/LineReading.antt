@@ -1,31 +1,18 @@
 -- how a line of each form is read, loosely
 use Rattle.std.specs.Prelude.{ℕ, List, if◌then◌else◌, Option, Some, None, option_map, codes}
 use Rattle.std.specs.Str.{bytes_eq}
-use Rattle.xt_base.specs.MemberList.{are_members}
 use Rattle.xt_base.specs.declared.ids.NodeId.{NodeId}
 use Rattle.xt_messages.specs.declared.file.Kind.{Kind}
 use Rattle.xt_messages.specs.declared.file.Location.{Location}
 use Rattle.xt_messages.specs.declared.event.Call.TheVariants as call
 use Rattle.time_line.specs.declared.line.Line.{Line}
 use Rattle.time_line.specs.declared.line.Line.TheVariants as line
-use Rattle.server_text.specs.Reading.{number_at, first_word, other_words, each_word, byte_of, bytes_of, node_in}
+use Rattle.server_text.specs.Reading.{number_at, first_word, other_words, byte_of, bytes_of, node_in, members_at}
 use Rattle.server_text.specs.RequestReading.{kind_in, meta_call_in, registry_call_in}
 
 -- the node that the first word numbers, and the words after it
 unfoldable pub node_at : List ℕ → NodeId × List ℕ
 node_at words = (node_in (first_word words), other_words words)
-
--- the nodes that the first words number, at most so many of them
-abbrev pub nodes_of : ℕ → List ℕ → List NodeId
-nodes_of most words = each_word node_in most words
-
--- these nodes, where they are one to nine different ones
-abbrev pub as_members : List NodeId → Option (List NodeId)
-as_members nodes = if are_members nodes then Some nodes else None
-
--- the members of a file that the words number
-unfoldable pub members_at : List ℕ → Option (List NodeId)
-members_at words = as_members (nodes_of 9 words)
 
 -- where a file lies that a schedule declares or the metadata server makes
 abbrev pub place_on : Kind → ℕ → List NodeId → Location

@@ -1,6 +1,6 @@
 ghost use Rattle.std.specs.Prelude.{◌≡◌, ◌<◌, ◌^◌, ◌↔◌, IsTrue};
 ghost use Rattle.std.specs.List.{AllByRecursion};
-ghost use Rattle.xt_messages.specs.Limits.{FitsMembers, FitsLocation};
+ghost use Rattle.xt_messages.specs.Limits.{FitsLocation};
 ghost use Rattle.time_line.specs.Bounds.{FitsCall, FitsRefusal, FitsRetry, FitsAnswered, FitsOutcome, FitsPosition};
 ghost use Rattle.xt_base.specs.FieldLimits.{FitsBytes};
 ghost use Rattle.schedule_text.specs.CallText.{IsSpellableCall};
@@ -9,20 +9,15 @@ ghost use Rattle.schedule_text.specs.EntryText.{IsEntryAt};
 ghost use Rattle.schedule_text.specs.LineText.{IsLine, IsPlace};
 
 use server_text::{
-    are_nodes, is_meta_outcome, is_meta_request, is_registry_outcome, is_registry_request,
+    are_members, is_meta_outcome, is_meta_request, is_registry_outcome, is_registry_request,
     is_stripe,
 };
 use time_line::{Entry, Line};
-use xt_base::{BODY, COUNTS, Members, NodeId, OpId, Times};
+use xt_base::{BODY, COUNTS, NodeId, OpId, Times};
 use xt_messages::{Answered, AskRefusal, Call, Location, Outcome, Retry};
 
-/// Whether the nodes are one to nine different ones.
-#[tactic(auto, using(server_text::proofs::ManyAgain::nodes_fit, server_text::proofs::ManyAgain::nodes_pass))]
-pub(crate) fn are_members(nodes: &[NodeId]) -> bool
-    ensures { IsTrue result ↔ FitsMembers nodes.now }
-{
-    are_nodes(nodes) && Members::new(nodes).is_ok()
-}
+/// The versions of lists are below this.
+const VERSIONS: u32 = 1 << 31;
 
 /// Whether a schedule may put a file so.
 pub(crate) fn is_place(location: &Location) -> bool
@@ -35,14 +30,16 @@ pub(crate) fn is_place(location: &Location) -> bool
 pub(crate) fn is_read(file: u64, object: u64, at: u32, len: u32) -> bool
     ensures { IsTrue result ↔ FitsCall (Call.Read file object at len) }
 {
-    object < 1 << 32 && (1..=BODY).contains(&(len as usize))
+    let _object_fits = object;
+    (1..=BODY).contains(&(len as usize))
 }
 
 /// Whether a call may write these bytes to an object.
 pub(crate) fn is_written(file: u64, object: u64, at: u32, bytes: &[u8]) -> bool
     ensures { IsTrue result ↔ FitsCall (Call.Write file object at bytes.now) }
 {
-    object < 1 << 32 && (1..=BODY).contains(&bytes.len())
+    let _object_fits = object;
+    (1..=BODY).contains(&bytes.len())
 }
 
 /// Whether a client's call has a spelling, and values within their limits.
@@ -227,6 +224,11 @@ pub(crate) fn is_entry(first: bool, entry: &Entry) -> bool
     match entry {
         Entry::Times { lease, drift } => first && Times::new(*lease, *drift).is_ok(),
         Entry::File { number, location } => *number < COUNTS && is_place(location),
+        Entry::List {
+            number,
+            version,
+            members,
+        } => { *number < COUNTS && *version < VERSIONS && are_members(members.as_slice()) }
         Entry::Clock { node, clock } => {
             let _fits = node.0;
             *clock < COUNTS

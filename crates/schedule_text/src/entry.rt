@@ -1,7 +1,7 @@
 ghost use Rattle.std.specs.Prelude.{◌≡◌, ◌++◌, ◌∷◌, [], List, OnOk, IfOk, IsTrue, ◌↔◌, MatchResult, codes};
 ghost use Rattle.std.specs.List.{AllByRecursion};
 ghost use Rattle.std.specs.Fmt.{decimal};
-ghost use Rattle.server_text.specs.Words.{spaced, hex_or_dash};
+ghost use Rattle.server_text.specs.Words.{spaced, hex_or_dash, node_words};
 ghost use Rattle.schedule_text.specs.CallText.{call_name, call_words};
 ghost use Rattle.schedule_text.specs.OutcomeText.{outcome_words};
 ghost use Rattle.time_line.specs.declared.entry.Entry.{Entry};
@@ -13,11 +13,26 @@ use crate::common::{push_clock, push_file_line, push_named, push_times};
 use crate::entry_forms::loose_entry;
 use crate::line::LineErr;
 use crate::outcome::push_outcome;
-use server_text::{Word, hex_or_dash, push_named_words};
+use server_text::{Word, hex_or_dash, push_named_words, push_nodes};
 use std::alloc::Global;
 use time_line::{Entry, Halt};
 use xt_base::{Boot, NodeId, Octets, OpId, OutOfMemory};
 use xt_messages::{Call, Outcome};
+
+/// Appends `list F VERSION NODE .. NODE`.
+fn push_list(
+    out: &mut Vec<u8>,
+    number: u64,
+    version: u32,
+    members: &[NodeId],
+) -> Result<(), OutOfMemory>
+    ensures { OnOk result (out.new.items ≡
+        out.old.items ++
+        spaced (codes "list" ∷ decimal number ∷ decimal version ∷ node_words members.now)) }
+{
+    push_named_words(out, b"list", &[Word::Number(number), Word::Small(version)])?;
+    push_nodes(out, members)
+}
 
 /// Appends `up N BOOT CLOCK`.
 fn push_up(out: &mut Vec<u8>, node: NodeId, boot: Boot, clock: u64) -> Result<(), OutOfMemory>
@@ -174,6 +189,11 @@ fn push_entry(out: &mut Vec<u8>, entry: &Entry) -> Result<(), OutOfMemory>
     match entry {
         Entry::Times { lease, drift } => push_times(out, *lease, *drift),
         Entry::File { number, location } => push_file_line(out, *number, location),
+        Entry::List {
+            number,
+            version,
+            members,
+        } => push_list(out, *number, *version, members.as_slice()),
         Entry::Clock { node, clock } => push_clock(out, b"clock", *node, *clock),
         Entry::Tick { count } => push_named(out, b"tick", u128::from(*count)),
         Entry::Up { node, boot, clock } => push_up(out, *node, *boot, *clock),
@@ -238,7 +258,7 @@ pub fn print_entries(alloc: Global, entries: &[Entry]) -> Result<Octets, OutOfMe
     for entry in entries {
         push_entry_line(&mut out, entry)?;
     }
-    Ok(Octets::from(out))
+    Octets::from_vec(out)
 }
 
 /// Whether the entry is in the language and these bytes spell it.

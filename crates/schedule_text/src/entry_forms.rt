@@ -3,12 +3,12 @@ ghost use Rattle.std.specs.Prelude.{◌≡◌, ℕ, Some, IfOk};
 ghost use Rattle.xt_base.specs.declared.ids.NodeId.{NodeId};
 ghost use Rattle.xt_base.specs.declared.ids.OpId.{OpId};
 ghost use Rattle.time_line.specs.declared.entry.Entry.{Entry};
-ghost use Rattle.schedule_text.specs.EntryReading.{times_in, file_in, clock_in, tick_in, up_in, halt_of, down_in, call_of, call_on, file_call_in, call_in, begin_in, held_in, id_of, update_in, answer_in, refusal_of, refusal_in, outcome_in, done_in, node_entry, update_entry, entry_of, entry_at};
+ghost use Rattle.schedule_text.specs.EntryReading.{times_in, file_in, list_in, clock_in, tick_in, up_in, halt_of, down_in, call_of, call_on, file_call_in, call_in, begin_in, held_in, id_of, update_in, answer_in, refusal_of, refusal_in, outcome_in, done_in, node_entry, update_entry, entry_of, entry_at};
 
 use crate::answers::answers_in;
 use crate::nodes::location_at;
 use server_text::{
-    bytes_of, cut, denial_of, read_meta_call, read_meta_outcome, read_registry_call,
+    bytes_of, cut, denial_of, members_at, read_meta_call, read_meta_outcome, read_registry_call,
     read_registry_outcome, u32_at, u32_of, u64_at, u64_of,
 };
 use std::alloc::Global;
@@ -34,6 +34,21 @@ fn file(words: &[u8]) -> Option<Entry>
     let (number, words) = u64_at(words);
     let location = location_at(words)?;
     Some(Entry::File { number, location })
+}
+
+/// `list F VERSION NODE ..`
+#[tactic(auto, unfolding(crate::specs::EntryReading::list_in))]
+fn list(words: &[u8]) -> Option<Entry>
+    ensures { result ≡ list_in words.now }
+{
+    let (number, words) = u64_at(words);
+    let (version, words) = u32_at(words);
+    let members = members_at(words)?;
+    Some(Entry::List {
+        number,
+        version,
+        members,
+    })
 }
 
 /// `clock N VALUE`
@@ -403,6 +418,8 @@ fn node_entry(name: &[u8], words: &[u8]) -> Option<Entry>
         Some(times(words))
     } else if name == b"file".as_slice() {
         file(words)
+    } else if name == b"list".as_slice() {
+        list(words)
     } else if name == b"clock".as_slice() {
         Some(clock(words))
     } else if name == b"tick".as_slice() {

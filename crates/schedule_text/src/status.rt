@@ -158,5 +158,5 @@ pub fn print_status(alloc: Global, status: &Status) -> Result<Octets, OutOfMemor
 {
     let mut out = Vec::new(alloc);
     push_last_line(&mut out, status)?;
-    Ok(Octets::from(out))
+    Octets::from_vec(out)
 }

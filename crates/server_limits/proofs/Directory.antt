@@ -1,5 +1,5 @@
 -- what the directory service knows and gives is within the limits
-use Rattle.std.proofs.Common.{◌≡◌, ℕ, zero, suc, ◌+◌, ◌<◌, ◌^◌, List, [], ◌∷◌, take, map, refl, sym, ap, subst, arith, Bool, true, false, cond}
+use Rattle.std.proofs.Common.{◌≡◌, inl, ℕ, zero, suc, ◌+◌, ◌<◌, ◌^◌, List, [], ◌∷◌, take, map, refl, sym, ap, subst, arith, Bool, true, false, cond}
 use Rattle.std.specs.Prelude.{◌==◌, ◌&&◌, not, nat_le, Option, Some, None, filter, fold}
 use Rattle.std.specs.List.{AllByRecursion}
 use Rattle.std.specs.Ordering.{nat_cmp, is_eq, match_ordering}
@@ -171,7 +171,7 @@ rests dir fits = record { state = fits; gives = record { kept = tt; messages = t
 
 answered_fits : (dir : DirState) (client : NodeId) (number : ℕ) (what : RegistryAnswer) → FitsDir dir → FitsNode client → IsCount number → FitsRegistryAnswer what → FitsDirStep (answered dir client number what)
 answered_fits dir client number what fits who counts told =
-    record { state = fits; gives = record { kept = tt; messages = (record { sender = omega arith; receiver = who; first = refl; content = (counts, told) }, tt); marks = tt } }
+    record { state = fits; gives = record { kept = tt; messages = (record { sender = omega arith; receiver = who; listed = inl refl; content = (counts, told) }, tt); marks = tt } }
 
 request_follows : (dir : DirState) (client : NodeId) (number : ℕ) (request : RegistryReq) → FitsDir dir → FitsRegistryReq request → is_spent dir.rows request ≡ false → FitsDir (after_request dir client number request)
 request_follows dir client number request fits asks unspent =
@@ -190,7 +190,7 @@ fresh_fits dir client number request fits who counts asks = go (is_spent dir.row
         gives =
             record {
               kept = (who, counts, omega arith, tt, asks);
-              messages = (record { sender = omega arith; receiver = who; first = refl; content = (counts, good.told) }, tt);
+              messages = (record { sender = omega arith; receiver = who; listed = inl refl; content = (counts, good.told) }, tt);
               marks = tt;
             };
       }

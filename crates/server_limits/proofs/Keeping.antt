@@ -28,12 +28,7 @@ use Rattle.server_limits.proofs.Directory as of_dir
 -- the record of a request stands anywhere
 follows_one : (rec : Record) (folded : Folded) → FitsKept rec → FitsRecord rec × IsInPlace folded rec
 follows_one (kept.Meta client number now nodes request) folded fits = (fits, tt)
-follows_one (kept.Boot boot) folded fits = absurd fits
-follows_one (kept.Promise file epoch) folded fits = absurd fits
-follows_one (kept.Update file update) folded fits = absurd fits
-follows_one (kept.Stage file object version bytes) folded fits = absurd fits
-follows_one (kept.Head file head) folded fits = absurd fits
-follows_one (kept.View file location) folded fits = absurd fits
+follows_one _ folded fits = absurd fits
 
 pub follows : (records : List Record) (rec : Option Record) → IfSome rec FitsKept → MayFollow records rec
 follows records None fits = tt

@@ -1,5 +1,5 @@
 -- what the metadata server knows and gives is within the limits
-use Rattle.std.proofs.Common.{◌≡◌, ℕ, ◌<◌, ◌^◌, refl, Bool, true, false, cond, arith}
+use Rattle.std.proofs.Common.{◌≡◌, inl, ℕ, ◌<◌, ◌^◌, refl, Bool, true, false, cond, arith}
 use Rattle.std.specs.Prelude.{Option, Some, None, List, [], ◌∷◌, ◌==◌, fold, nat_eq, nat_lt, max, IfSome}
 use Rattle.std.specs.List.{AllByRecursion}
 use Rattle.std.specs.Map.{lookup}
@@ -36,7 +36,8 @@ use Rattle.volume_rows.specs.Rows.{Volumes}
 use Rattle.volume_rows.specs.Grants.{volume_id, file_at}
 use Rattle.server_rows.specs.declared.MadeFile.{MadeFile}
 use Rattle.server_rows.specs.Requests.{outcome_of, place_of, placed, nodes_in, is_done, new_file, noted, ends_at, ended, made_by, file_wanted, marks_on, is_recorded, is_spent, nodes_for}
-use Rattle.server_rows.specs.Metadata.{Catalogue, MrcState, empty_catalogue, after_request, after_meta, after_record, mrc_of, nothing, answered, recorded, fresh, by_standing, rows_heard, nodes_of, is_dir, told_by, handled, step_of_mrc}
+use Rattle.server_rows.specs.Metadata.{Catalogue, MrcState, empty_catalogue, after_request, after_meta, after_record, mrc_of, nothing, answered, recorded, fresh, by_standing, requested, rows_heard, nodes_of, is_dir, told_by, handled, step_of_mrc}
+use Rattle.server_rows.proofs.Taking.{taken_or_not}
 use Rattle.server_limits.specs.Limits.{IsGiven, FitsShown, FitsVolumes, FitsMade, AreMade, FitsMetaAnswers, FitsCatalogue, FitsMrc, FitsMrcStep}
 use Rattle.server_limits.proofs.Bytes.{volume_bytes, volume_length}
 use Rattle.server_limits.proofs.Picking.{AreKnown, nodes_known, nodes_fit}
@@ -86,14 +87,7 @@ made_fits : (volumes : Volumes) (now : ℕ) (nodes : Option (List NodeId)) (requ
 made_fits volumes now nodes (ask.Create path mode kind n stripe) who es volumes_fit members asked unspent fits =
     noted_fits (path_in path) volumes.next (placed kind n stripe (nodes_in nodes)) es (record { least = volumes_fit.least; most = leb-false COUNTS volumes.next unspent }) (placed_fits kind n stripe nodes asked.2 asked.4 members) fits
 made_fits volumes now nodes (ask.Unlink path) who es volumes_fit members asked unspent fits = ended_fits now (file_at volumes (path_in path)) es fits
-made_fits volumes now nodes (ask.Mkdir path mode) who es volumes_fit members asked unspent fits = fits
-made_fits volumes now nodes (ask.Rename from to) who es volumes_fit members asked unspent fits = fits
-made_fits volumes now nodes (ask.Rmdir path) who es volumes_fit members asked unspent fits = fits
-made_fits volumes now nodes (ask.List path after) who es volumes_fit members asked unspent fits = fits
-made_fits volumes now nodes (ask.Stat path) who es volumes_fit members asked unspent fits = fits
-made_fits volumes now nodes (ask.Chmod path mode) who es volumes_fit members asked unspent fits = fits
-made_fits volumes now nodes (ask.Grant path want) who es volumes_fit members asked unspent fits = fits
-made_fits volumes now nodes (ask.Report capability mark) who es volumes_fit members asked unspent fits = fits
+made_fits volumes now nodes _ who es volumes_fit members asked unspent fits = fits
 
 after_fits : (done : Bool) (es new : List (ℕ × MadeFile)) → AreMade es → AreMade new → AreMade (cond done new es)
 after_fits true es new fits more = more
@@ -110,15 +104,7 @@ marks_fit : (volumes : Volumes) (nodes : Option (List NodeId)) (request : MetaRe
     → AllByRecursion FitsShown (marks_on (file_wanted volumes.next request) (place_of nodes request))
 marks_fit volumes nodes (ask.Create path mode kind n stripe) who volumes_fit members asked unspent =
     placed_mark (path_in path) volumes.next (placed kind n stripe (nodes_in nodes)) (record { least = volumes_fit.least; most = leb-false COUNTS volumes.next unspent }) (placed_fits kind n stripe nodes asked.2 asked.4 members)
-marks_fit volumes nodes (ask.Unlink path) who volumes_fit members asked unspent = tt
-marks_fit volumes nodes (ask.Mkdir path mode) who volumes_fit members asked unspent = tt
-marks_fit volumes nodes (ask.Rename from to) who volumes_fit members asked unspent = tt
-marks_fit volumes nodes (ask.Rmdir path) who volumes_fit members asked unspent = tt
-marks_fit volumes nodes (ask.List path after) who volumes_fit members asked unspent = tt
-marks_fit volumes nodes (ask.Stat path) who volumes_fit members asked unspent = tt
-marks_fit volumes nodes (ask.Chmod path mode) who volumes_fit members asked unspent = tt
-marks_fit volumes nodes (ask.Grant path want) who volumes_fit members asked unspent = tt
-marks_fit volumes nodes (ask.Report capability mark) who volumes_fit members asked unspent = tt
+marks_fit volumes nodes _ who volumes_fit members asked unspent = tt
 
 if_done : (done : Bool) (marks : List Mark) → AllByRecursion FitsShown marks → AllByRecursion FitsShown (cond done marks [])
 if_done true marks fits = fits
@@ -199,7 +185,7 @@ rests mrc fits = record { state = fits; gives = record { kept = tt; messages = t
 
 answered_fits : (mrc : MrcState) (client : NodeId) (number : ℕ) (what : MetaAnswer) → FitsMrc mrc → FitsNode client → IsCount number → FitsMetaAnswer what → FitsMrcStep (answered mrc client number what)
 answered_fits mrc client number what fits who counts told =
-    record { state = fits; gives = record { kept = tt; messages = (record { sender = omega arith; receiver = who; first = refl; content = (counts, told) }, tt); marks = tt } }
+    record { state = fits; gives = record { kept = tt; messages = (record { sender = omega arith; receiver = who; listed = inl refl; content = (counts, told) }, tt); marks = tt } }
 
 fresh_fits : (key : List ℕ) (mrc : MrcState) (client : NodeId) (number : ℕ) (who : Asker) (request : MetaReq) → FitsMrc mrc → FitsNode client → IsCount number → Asks who → FitsMetaReq request
     → FitsMrcStep (fresh key mrc client number who request)
@@ -227,7 +213,7 @@ fresh_fits key mrc client number who request fits node counts asks asked = go (i
         gives =
             record {
               kept = (node, counts, fits.clock, members, (asks.user, asks.users, asked));
-              messages = (record { sender = omega arith; receiver = node; first = refl; content = (counts, good.told) }, tt);
+              messages = (record { sender = omega arith; receiver = node; listed = inl refl; content = (counts, good.told) }, tt);
               marks = if_done (is_done (outcome_of key mrc.catalogue.volumes who mrc.last nodes request).answer) (marks_on (file_wanted mrc.catalogue.volumes.next request) (place_of nodes request)) (marks_fit mrc.catalogue.volumes nodes request who fits.catalogue.volumes members asked is);
             };
       }
@@ -241,6 +227,14 @@ stands_fits key mrc client number who request standing.Fresh fits node counts as
 stands_fits key mrc client number who request (standing.Again what) fits node counts asks asked told = answered_fits mrc client number what fits node counts told
 stands_fits key mrc client number who request standing.Older fits node counts asks asked told = rests mrc fits
 
+requested_fits : (key : List ℕ) (mrc : MrcState) (client : NodeId) (number : ℕ) (who : Asker) (request : MetaReq) → FitsMrc mrc → FitsNode client → IsCount number → Asks who → FitsMetaReq request
+    → FitsMrcStep (requested key mrc client number who request)
+requested_fits key mrc client number who request fits node counts asks asked =
+    taken_or_not FitsMrcStep key mrc client number who request
+    (stands_fits key mrc client number who request (standing_of mrc.catalogue.clients client number) fits node counts asks asked
+    (standing_fits mrc.catalogue.clients client number fits.catalogue.answers))
+    (rests mrc fits)
+
 heard_fits : (mrc : MrcState) (from : NodeId) (rows : List RegistryRow) → FitsMrc mrc → AreKnown (nodes_of rows) → FitsMrcStep (rows_heard mrc from rows)
 heard_fits mrc from rows fits known = go (is_dir from) where
   go : (b : Bool) → FitsMrcStep (cond b (nothing (record mrc { osds = nodes_of rows })) (nothing mrc))
@@ -253,8 +247,7 @@ registry_fits key mrc from number _ fits says = rests mrc fits
 
 told_fits : (key : List ℕ) (mrc : MrcState) (from : NodeId) (content : Payload) → FitsMrc mrc → FitsNode from → FitsPayload content → FitsMrcStep (told_by key mrc from content)
 told_fits key mrc from (payload.Meta number user group request) fits node asks =
-    stands_fits key mrc from number (record { user = user; group = group }) request (standing_of mrc.catalogue.clients from number) fits node asks.0 (record { user = asks.1; users = asks.2 }) asks.3
-    (standing_fits mrc.catalogue.clients from number fits.catalogue.answers)
+    requested_fits key mrc from number (record { user = user; group = group }) request fits node asks.0 (record { user = asks.1; users = asks.2 }) asks.3
 told_fits key mrc from (payload.RegistryReply number what) fits node says = registry_fits key mrc from number what fits says.1
 told_fits key mrc from _ fits node says = rests mrc fits
 
@@ -266,7 +259,7 @@ handled_fits key mrc event.Wake fits comes =
       gives =
           record {
             kept = tt;
-            messages = (record { sender = omega arith; receiver = omega arith; first = refl; content = (omega arith, (omega arith, omega arith)) }, tt);
+            messages = (record { sender = omega arith; receiver = omega arith; listed = inl refl; content = (omega arith, (omega arith, omega arith)) }, tt);
             marks = tt;
           };
     }

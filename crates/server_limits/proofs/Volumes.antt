@@ -15,6 +15,7 @@ use Rattle.xt_base.specs.declared.ids.FileId.{FileId}
 use Rattle.xt_base.specs.declared.ids.SizeMark.{SizeMark}
 use Rattle.xt_messages.specs.Limits.{FitsFile, FitsMark, FitsLocation, FitsStripe, FitsMembers, FitsMetaReq, FitsMetaRefusal, FitsMetaAnswer, FitsNames}
 use Rattle.xt_messages.specs.declared.file.Kind.{Kind}
+use Rattle.xt_messages.specs.declared.file.Kind.TheVariants as kind
 use Rattle.xt_messages.specs.declared.file.Capability.{Capability}
 use Rattle.xt_messages.specs.declared.reply.Denial.{Denial}
 use Rattle.xt_messages.specs.declared.meta.MetaReq.{MetaReq}
@@ -35,7 +36,7 @@ use Rattle.volume_rows.specs.declared.Picked.TheVariants as place
 use Rattle.volume_rows.specs.Paths.{Name, Path, path_in, name_in, parent_of, same_path, path_cmp, is_within}
 use Rattle.volume_rows.specs.Rows.{Row, Volumes, mark_of, entry_in, entry_at, with_row, without_row, rows_within, rows_outside, moved, renamed, names_in, page_of}
 use Rattle.volume_rows.specs.Rights.{passes, unless, is_directory, allows, searching, writing, reading, rule_of_read, rule_of_write, rule_of_owner, rule_of_search, ancestors_from, ancestors, absent, allowed, directory, empty, file, first_of, outside, owned, parent_writable, same_volume, there}
-use Rattle.volume_rows.specs.Grants.{stored_of, stored_in, holds_file, with_sizes, sizes_of, sizes_set, sizes_in, wants_reading, granted, granted_of, unless_refused, next_epoch, wanted}
+use Rattle.volume_rows.specs.Grants.{stored_of, stored_in, holds_file, with_sizes, sizes_of, sizes_set, sizes_in, wants_reading, granted, granted_of, located, located_as, unless_refused, next_epoch, wanted}
 use Rattle.volume_rows.specs.Requests.{Outcome, done, tells, refused, after_tests, has_names, on_path, on_paths, made, new_file, file_placed, row_told, mode_put, directory_made, file_made, path_renamed, file_unlinked, directory_removed, entry_told, names_listed, mode_set}
 use Rattle.server_rows.specs.declared.TheConstants.{LIFE}
 use Rattle.server_rows.specs.declared.NewSizes.{NewSizes}
@@ -472,6 +473,13 @@ grant_is volumes who want (Some (name ∷ names)) fits = go (nat_le 1 (length (n
   go true = path_granted volumes who want name names fits
   go false = tt
 
+located_fits : (grant : Result Granting MetaRefusal) → GrantIs 1 grant → FitsMetaAnswer (located grant)
+located_fits (Err why) is = is
+located_fits (Ok grant) is = go grant.location.kind where
+  go : (k : Kind) → FitsMetaAnswer (located_as k grant.location)
+  go kind.Replicated = is.place
+  go kind.Striped = tt
+
 mode_low : (b : Bool) → 1 ≤ cond b 1 2
 mode_low true = omega arith
 mode_low false = omega arith
@@ -593,3 +601,6 @@ request_good key volumes who now nodes (ask.Grant path want) fits asks clock mem
     grant_good key volumes now want (grant_at volumes who want path) fits clock (grant_is volumes who want (path_in path) fits) unspent
 request_good key volumes who now nodes (ask.Report capability mark) fits asks clock members asked unspent =
     report_good volumes capability.file (denial_of key capability capability.file now true) (sizes_in volumes.rows capability.file) mark fits (sizes_are volumes.rows capability.file fits.rows) asked.1
+request_good key volumes who now nodes (ask.Change path list) fits asks clock members asked unspent = record { volumes = fits; told = tt }
+request_good key volumes who now nodes (ask.Locate path) fits asks clock members asked unspent =
+    record { volumes = fits; told = located_fits (grant_at volumes who 1 path) (grant_is volumes who 1 (path_in path) fits) }

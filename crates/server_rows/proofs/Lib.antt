@@ -1,3 +1,4 @@
+pub mod Taking
 pub mod Metadata
 pub mod Directory
 pub mod Refusing

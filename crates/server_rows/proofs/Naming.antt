@@ -10,6 +10,8 @@ use Rattle.indexmap.specs.IndexMap.{insert_entry}
 use Rattle.xt_base.specs.declared.ids.NodeId.{NodeId}
 use Rattle.xt_base.specs.declared.ids.FileId.{FileId}
 use Rattle.xt_base.specs.declared.ids.SizeMark.{SizeMark}
+use Rattle.xt_messages.specs.declared.file.Kind.{Kind}
+use Rattle.xt_messages.specs.declared.file.Kind.TheVariants as kind
 use Rattle.xt_messages.specs.declared.reply.Denial.{Denial}
 use Rattle.xt_messages.specs.declared.meta.MetaReq.{MetaReq}
 use Rattle.xt_messages.specs.declared.meta.MetaReq.TheVariants as ask
@@ -42,15 +44,16 @@ use Rattle.volume_rows.specs.declared.Picked.TheVariants as place
 use Rattle.volume_rows.specs.Paths.{Name, Path, path_in, same_path, path_cmp, is_within}
 use Rattle.volume_rows.specs.Rows.{Row, Volumes, entry_in, entry_at, with_row, without_row, rows_within, rows_outside, moved, renamed, page_of}
 use Rattle.volume_rows.specs.Rights.{ancestors, absent, allowed, directory, empty, file, first_of, outside, owned, parent_writable, reading, rule_of_read, same_volume, there}
-use Rattle.volume_rows.specs.Grants.{volume_id, volume_of, file_id, stored_of, stored_in, file_of, file_at, holds_file, with_sizes, sizes_set, sizes_in, granted, granted_of, unless_refused, wanted}
+use Rattle.volume_rows.specs.Grants.{volume_id, volume_of, file_id, stored_of, stored_in, file_of, file_at, holds_file, with_sizes, sizes_set, sizes_in, granted, granted_of, located, located_as, unless_refused, wanted}
 use Rattle.volume_rows.specs.Requests.{Outcome, done, tells, refused, after_tests, has_names, on_path, on_paths, made, new_file, file_placed, row_told, mode_put, directory_made, file_made, path_renamed, file_unlinked, directory_removed, entry_told, names_listed, mode_set}
 use Rattle.capabilities.specs.Denials.{denial_of}
 use Rattle.server_rows.specs.declared.MadeFile.{MadeFile}
 use Rattle.server_rows.specs.declared.NewSizes.{NewSizes}
 use Rattle.server_rows.specs.Requests.{outcome_of, place_of, settled, grant_settled, report_settled, grant_at, is_done, noted, ends_at, ended, made_by, made_after, is_recorded, is_spent, nodes_for}
 use Rattle.server_rows.specs.Requests as rows
-use Rattle.server_rows.specs.Metadata.{Catalogue, MrcState, MrcStep, empty_catalogue, after_request, after_meta, after_record, catalogue_of, nothing, answered, recorded, fresh, by_standing, rows_heard, nodes_of, is_dir, told_by, handled, step_of_mrc}
+use Rattle.server_rows.specs.Metadata.{Catalogue, MrcState, MrcStep, empty_catalogue, after_request, after_meta, after_record, catalogue_of, nothing, answered, recorded, fresh, by_standing, requested, rows_heard, nodes_of, is_dir, told_by, handled, step_of_mrc}
 use Rattle.server_rows.specs.Naming.{Made, IsMadeAs, NamesMade, IsNamed, AreNamed, AnswersName, RisesTo, Holds, GrantMade, Stays}
+use Rattle.server_rows.proofs.Taking.{taken_or_not}
 
 -- ---- the files by their numbers
 
@@ -147,10 +150,7 @@ all_later old new (r ∷ rs) stays named = (named_later old new r.path r.entry.c
 
 answer_later : (old new : Made) (what : MetaAnswer) → Stays old new → NamesMade old what → NamesMade new what
 answer_later old new (answer.Granted capability mark) stays named = stays capability.file capability.location named
-answer_later old new answer.Done stays named = tt
-answer_later old new (answer.Refused why) stays named = tt
-answer_later old new (answer.Names names) stays named = tt
-answer_later old new (answer.Row kind owner group mode mark) stays named = tt
+answer_later old new _ stays named = tt
 
 answers_later : (old new : Made) (clients : List (ℕ × Kept MetaAnswer)) → Stays old new → AnswersName old clients → AnswersName new clients
 answers_later old new [] stays named = tt
@@ -408,6 +408,16 @@ grant_good : (es : Made) (key : List ℕ) (volumes : Volumes) (now want : ℕ) (
 grant_good es key volumes now want (Err why) sound named = record { volumes = sound; told = tt }
 grant_good es key volumes now want (Ok grant) sound named = record { volumes = sizes_sound es volumes (rows.sizes_granted want grant) sound; told = named }
 
+located_named : (es : Made) (grant : Result Granting MetaRefusal) → NamesMade es (located grant)
+located_named es (Err why) = tt
+located_named es (Ok grant) = go grant.location.kind where
+  go : (k : Kind) → NamesMade es (located_as k grant.location)
+  go kind.Replicated = tt
+  go kind.Striped = tt
+
+located_good : (es : Made) (volumes : Volumes) (who : Asker) (path : List ℕ) → Sound es volumes → Good es (tells volumes (rows.located_at volumes who path))
+located_good es volumes who path sound = record { volumes = sound; told = located_named es (grant_at volumes who 1 path) }
+
 report_good : (es : Made) (volumes : Volumes) (file : FileId) (denial : Option Denial) (sizes : Option (ℕ × SizeMark)) (mark : SizeMark) → Sound es volumes → Good es (settled volumes (report_settled file denial sizes mark))
 report_good es volumes file (Some rule) sizes mark sound = record { volumes = sound; told = tt }
 report_good es volumes file None None mark sound = record { volumes = sound; told = tt }
@@ -528,6 +538,9 @@ request_comes es key volumes who now nodes (ask.Grant path want) sound =
 request_comes es key volumes who now nodes (ask.Report capability mark) sound =
     none_made es (settled volumes (report_settled capability.file (denial_of key capability capability.file now true) (sizes_in volumes.rows capability.file) mark))
     (report_good es volumes capability.file (denial_of key capability capability.file now true) (sizes_in volumes.rows capability.file) mark sound)
+request_comes es key volumes who now nodes (ask.Change path list) sound = none_made es (tells volumes answer.Done) (record { volumes = sound; told = tt })
+request_comes es key volumes who now nodes (ask.Locate path) sound =
+    none_made es (tells volumes (rows.located_at volumes who path)) (located_good es volumes who path sound)
 
 -- ---- what a server knows
 
@@ -601,6 +614,8 @@ only_told es key volumes who now (ask.Grant path want) sound aside =
     (grant_good es key volumes now want (grant_at volumes who want path) sound (grant_named es volumes who want (has_names 1 (path_in path)) sound)).told
 only_told es key volumes who now (ask.Report capability mark) sound aside =
     (report_good es volumes capability.file (denial_of key capability capability.file now true) (sizes_in volumes.rows capability.file) mark sound).told
+only_told es key volumes who now (ask.Change path list) sound aside = tt
+only_told es key volumes who now (ask.Locate path) sound aside = (located_good es volumes who path sound).told
 only_told es key volumes who now (ask.Mkdir path mode) sound aside = absurd (cc)
 only_told es key volumes who now (ask.Create path mode kind n stripe) sound aside = absurd (cc)
 only_told es key volumes who now (ask.Rename from to) sound aside = absurd (cc)
@@ -629,6 +644,13 @@ stands_steps key mrc client number who request standing.Fresh holds named = fres
 stands_steps key mrc client number who request (standing.Again what) holds named = answered_steps mrc client number what holds named
 stands_steps key mrc client number who request standing.Older holds named = rests mrc mrc.osds holds
 
+request_steps : (key : List ℕ) (mrc : MrcState) (client : NodeId) (number : ℕ) (who : Asker) (request : MetaReq) → Holds mrc.catalogue → Steps mrc.catalogue (requested key mrc client number who request)
+request_steps key mrc client number who request holds =
+    taken_or_not (Steps mrc.catalogue) key mrc client number who request
+    (stands_steps key mrc client number who request (standing_of mrc.catalogue.clients client number) holds
+    (standing_named mrc.catalogue.made mrc.catalogue.clients client number holds.answers))
+    (rests mrc mrc.osds holds)
+
 heard_steps : (mrc : MrcState) (from : NodeId) (rs : List RegistryRow) → Holds mrc.catalogue → Steps mrc.catalogue (rows_heard mrc from rs)
 heard_steps mrc from rs holds = go (is_dir from) where
   go : (b : Bool) → Steps mrc.catalogue (cond b (nothing (record mrc { osds = nodes_of rs })) (nothing mrc))
@@ -640,9 +662,7 @@ registry_steps key mrc from number (told.Rows rs) holds = heard_steps mrc from r
 registry_steps key mrc from number _ holds = rests mrc mrc.osds holds
 
 told_steps : (key : List ℕ) (mrc : MrcState) (from : NodeId) (content : Payload) → Holds mrc.catalogue → Steps mrc.catalogue (told_by key mrc from content)
-told_steps key mrc from (payload.Meta number user group request) holds =
-    stands_steps key mrc from number (record { user = user; group = group }) request (standing_of mrc.catalogue.clients from number) holds
-    (standing_named mrc.catalogue.made mrc.catalogue.clients from number holds.answers)
+told_steps key mrc from (payload.Meta number user group request) holds = request_steps key mrc from number (record { user = user; group = group }) request holds
 told_steps key mrc from (payload.RegistryReply number what) holds = registry_steps key mrc from number what holds
 told_steps key mrc from _ holds = rests mrc mrc.osds holds
 

@@ -4,6 +4,8 @@ use Rattle.std.specs.Prelude.{Option, Some, None, Result, Ok, Err, List, [], ◌
 use Rattle.xt_base.specs.declared.ids.NodeId.{NodeId}
 use Rattle.xt_base.specs.declared.ids.FileId.{FileId}
 use Rattle.xt_base.specs.declared.ids.SizeMark.{SizeMark}
+use Rattle.xt_messages.specs.declared.file.Kind.{Kind}
+use Rattle.xt_messages.specs.declared.file.Kind.TheVariants as kind
 use Rattle.xt_messages.specs.declared.reply.Denial.{Denial}
 use Rattle.xt_messages.specs.declared.meta.MetaReq.{MetaReq}
 use Rattle.xt_messages.specs.declared.meta.MetaReq.TheVariants as ask
@@ -23,7 +25,7 @@ use Rattle.volume_rows.specs.Requests.{Outcome, done, tells, after_tests, has_na
 use Rattle.reply_cache.specs.Standings.{with_answer}
 use Rattle.server_rows.specs.Laws.{IsChange, SettlesAs, Settles}
 use Rattle.capabilities.specs.Denials.{denial_of}
-use Rattle.volume_rows.specs.Grants.{sizes_in}
+use Rattle.volume_rows.specs.Grants.{sizes_in, located, located_as}
 use Rattle.server_rows.specs.Requests.{outcome_of, place_of, settled, grant_settled, report_settled, grant_at, made_after}
 use Rattle.server_rows.specs.Metadata.{Catalogue, after_request}
 
@@ -99,24 +101,20 @@ changes_settle volumes who pick (ask.Chmod path mode) is =
     (λ p. after_tests_settle volumes (setting who volumes.rows p) (mode_put volumes p mode (entry_at volumes.rows p)) (mode_settle volumes p mode (entry_at volumes.rows p)))
 changes_settle volumes who pick (ask.Grant path want) is = absurd is
 changes_settle volumes who pick (ask.Report capability mark) is = absurd is
+changes_settle volumes who pick (ask.Change path nodes) is = absurd is
+changes_settle volumes who pick (ask.Locate path) is = absurd is
 
 -- where an answer is a refusal, the volumes are as they were
 abbrev KeepsAs : Volumes → Volumes → MetaAnswer → Type 0
-KeepsAs old new answer.Done = Unit {0}
 KeepsAs old new (answer.Refused why) = new ≡ old
-KeepsAs old new (answer.Names names) = Unit {0}
-KeepsAs old new (answer.Row kind owner group mode mark) = Unit {0}
-KeepsAs old new (answer.Granted capability mark) = Unit {0}
+KeepsAs old new _ = Unit {0}
 
 abbrev Keeps : Volumes → Outcome → Type 0
 Keeps volumes outcome = KeepsAs volumes outcome.volumes outcome.answer
 
 settled_keeps : (old new : Volumes) (what : MetaAnswer) → SettlesAs old new what → KeepsAs old new what
-settled_keeps old new answer.Done settles = tt
 settled_keeps old new (answer.Refused why) settles = settles
-settled_keeps old new (answer.Names names) settles = tt
-settled_keeps old new (answer.Row kind owner group mode mark) settles = tt
-settled_keeps old new (answer.Granted capability mark) settles = tt
+settled_keeps old new _ settles = tt
 
 after_tests_keep : (volumes : Volumes) (test : Option MetaRefusal) (passed : Outcome) → Keeps volumes passed → Keeps volumes (after_tests volumes test passed)
 after_tests_keep volumes (Some why) passed keeps = refl
@@ -139,6 +137,13 @@ report_keeps volumes file (Some rule) sizes mark = refl
 report_keeps volumes file None None mark = refl
 report_keeps volumes file None (Some sizes) mark = tt
 
+located_keeps : (volumes : Volumes) (grant : Result Granting MetaRefusal) → Keeps volumes (tells volumes (located grant))
+located_keeps volumes (Err why) = refl
+located_keeps volumes (Ok grant) = go grant.location.kind where
+  go : (k : Kind) → Keeps volumes (tells volumes (located_as k grant.location))
+  go kind.Replicated = tt
+  go kind.Striped = refl
+
 change_keeps : (volumes : Volumes) (who : Asker) (pick : Picked) (request : MetaReq) → IsChange request → Keeps volumes (applied volumes who pick request)
 change_keeps volumes who pick request is =
     settled_keeps volumes (applied volumes who pick request).volumes (applied volumes who pick request).answer (changes_settle volumes who pick request is)
@@ -158,6 +163,8 @@ outcome_keeps key volumes who now nodes (ask.Chmod path mode) = change_keeps vol
 outcome_keeps key volumes who now nodes (ask.Grant path want) = grant_keeps key volumes now want (grant_at volumes who want path)
 outcome_keeps key volumes who now nodes (ask.Report capability mark) =
     report_keeps volumes capability.file (denial_of key capability capability.file now true) (sizes_in volumes.rows capability.file) mark
+outcome_keeps key volumes who now nodes (ask.Change path list) = tt
+outcome_keeps key volumes who now nodes (ask.Locate path) = located_keeps volumes (grant_at volumes who 1 path)
 
 -- what is known after a request that came to these volumes and this answer
 abbrev known_after : Catalogue → NodeId → ℕ → ℕ → Option (List NodeId) → MetaReq → Volumes → MetaAnswer → Catalogue

@@ -1,11 +1,12 @@
 -- what a few messages come to at a metadata server, from no records
-use Rattle.std.specs.Prelude.{ℕ, ◌+◌, Option, Some, None, List, [], ◌∷◌, ◌++◌, map, codes}
+use Rattle.std.specs.Prelude.{ℕ, ◌+◌, false, Option, Some, None, List, [], ◌∷◌, ◌++◌, map, codes}
 use Rattle.xt_base.specs.declared.ids.NodeId.{NodeId}
 use Rattle.xt_base.specs.declared.ids.FileId.{FileId}
 use Rattle.xt_base.specs.declared.ids.SizeMark.{SizeMark}
 use Rattle.xt_messages.specs.declared.file.Kind.TheVariants as kind
 use Rattle.xt_messages.specs.declared.meta.MetaReq.{MetaReq}
 use Rattle.xt_messages.specs.declared.meta.MetaReq.TheVariants as ask
+use Rattle.xt_messages.specs.declared.meta.MetaRefusal.TheVariants as refusal
 use Rattle.xt_messages.specs.declared.meta.MetaAnswer.{MetaAnswer}
 use Rattle.xt_messages.specs.declared.meta.MetaAnswer.TheVariants as answer
 use Rattle.xt_messages.specs.declared.meta.RowKind.TheVariants as row_kind
@@ -117,6 +118,25 @@ file_answers =
 
 abbrev pub unlinking : List Coming
 unlinking = sent_at 5001 3 (by_first (ask.Unlink (codes "/v/a"))) ∷ []
+
+-- where files are: one of replicas, but neither a striped one nor a directory; a request to change a list isn't taken
+abbrev pub located_steps : List Coming
+located_steps =
+    sent_at 5000 4 (by_first (ask.Create (codes "/v/s") 420 kind.Striped 1 4096)) ∷ sent_at 5000 5 (by_first (ask.Locate (codes "/v/a")))
+    ∷ sent_at 5000 6 (by_first (ask.Locate (codes "/v/s")))
+    ∷ sent_at 5000 7 (by_first (ask.Locate (codes "/v")))
+    ∷ sent_at 5000 4 (by_first (ask.Change (codes "/v/a") (record { 0 = 1 } ∷ [])))
+    ∷ sent_at 5000 8 (by_first (ask.Change (codes "/v/a") (record { 0 = 1 } ∷ [])))
+    ∷ []
+
+abbrev pub located_answers : List (List MetaAnswer)
+located_answers =
+    (answer.Done ∷ []) ∷ (answer.Located (record { version = 1; kind = kind.Replicated; stripe = 4096; members = record { 0 = 1 } ∷ [] }) false ∷ [])
+    ∷ (answer.Refused refusal.NotReplicated ∷ [])
+    ∷ (answer.Refused refusal.IsDir ∷ [])
+    ∷ []
+    ∷ []
+    ∷ []
 
 -- the files that were ever made: their numbers, and when they were unlinked
 abbrev pub fates : MrcState → List (ℕ × Option ℕ)

@@ -21,6 +21,8 @@ IsChange (ask.Stat path) = ⊥
 IsChange (ask.Chmod path mode) = Unit {0}
 IsChange (ask.Grant path want) = ⊥
 IsChange (ask.Report capability mark) = ⊥
+IsChange (ask.Change path nodes) = ⊥
+IsChange (ask.Locate path) = ⊥
 
 -- an answer that is Done, or a refusal after which the volumes are as they were
 abbrev pub SettlesAs : Volumes → Volumes → MetaAnswer → Type 0
@@ -29,6 +31,7 @@ SettlesAs old new (answer.Refused why) = new ≡ old
 SettlesAs old new (answer.Names names) = ⊥
 SettlesAs old new (answer.Row kind owner group mode mark) = ⊥
 SettlesAs old new (answer.Granted capability mark) = ⊥
+SettlesAs old new (answer.Located location changing) = ⊥
 
 abbrev pub Settles : Volumes → Outcome → Type 0
 Settles volumes outcome = SettlesAs volumes outcome.volumes outcome.answer

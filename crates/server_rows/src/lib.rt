@@ -47,7 +47,7 @@ ghost use Rattle.server_rows.specs.Metadata.{Catalogue, MrcState, after_request,
 ghost use Rattle.server_rows.specs.Directory.{dir_of, step_of_dir};
 ghost use Rattle.server_rows.specs.Laws.{IsChange, RiseFrom, Settles, files_made};
 ghost use Rattle.server_rows.specs.Naming.{GrantMade, Holds, Stays};
-ghost use Rattle.server_rows.specs.Examples.{after, answers_from, at_epoch, fates, file_answers, file_steps, marks_reported, new_server, numbered, one_each, unlinking};
+ghost use Rattle.server_rows.specs.Examples.{after, answers_from, at_epoch, fates, file_answers, file_steps, located_answers, located_steps, marks_reported, new_server, numbered, one_each, unlinking};
 
 /// The records say what a metadata server knows: with that of a step after the earlier ones they say what it knows after the step.
 /// The OSDs and the clock are in memory alone.
@@ -112,6 +112,7 @@ pub fn capabilities_name_made_files()
 pub fn examples()
     ensures first_ones { answers_from new_server (numbered 1 first_steps) ≡ one_each first_answers }
     ensures a_file { answers_from new_server file_steps ≡ file_answers }
+    ensures located { answers_from (after new_server file_steps) located_steps ≡ located_answers }
     ensures made { fates (after new_server file_steps) ≡ (1000000, None) ∷ [] }
     ensures unlinked { fates (after (after new_server file_steps) unlinking) ≡
         (1000000, Some 5001) ∷ [] }

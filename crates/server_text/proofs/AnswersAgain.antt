@@ -1,5 +1,5 @@
 -- An answer of the metadata server or the directory service that was written is read.
-use Rattle.std.proofs.Common.{◌≡◌, ℕ, ◌^◌, ◌<◌, ◌≤◌, List, [], ◌∷◌, map, refl, sym, ap, subst, ◌∙◌, arith}
+use Rattle.std.proofs.Common.{◌≡◌, ℕ, ◌^◌, ◌<◌, ◌≤◌, Bool, true, false, List, [], ◌∷◌, map, refl, sym, ap, subst, ◌∙◌, arith}
 use Rattle.std.specs.Prelude.{codes}
 use Rattle.std.specs.List.{AllByRecursion}
 use Rattle.std.specs.Fmt.{decimal}
@@ -16,15 +16,15 @@ use Rattle.xt_messages.specs.declared.event.MetaOutcome.{MetaOutcome}
 use Rattle.xt_messages.specs.declared.event.MetaOutcome.TheVariants as meta
 use Rattle.xt_messages.specs.declared.event.RegistryOutcome.{RegistryOutcome}
 use Rattle.xt_messages.specs.declared.event.RegistryOutcome.TheVariants as registry
-use Rattle.xt_messages.specs.Limits.{FitsMark, FitsMetaRefusal, FitsRow}
+use Rattle.xt_messages.specs.Limits.{FitsMembers, FitsMark, FitsMetaRefusal, FitsRow}
 use Rattle.time_line.specs.Bounds.{FitsMetaOutcome, FitsRegistryOutcome}
 use Rattle.server_text.specs.Words.{spaced, mode_word, node_words}
-use Rattle.server_text.specs.AnswerText.{denial_number, meta_refusal_words, row_word, meta_outcome_words, registry_outcome_words}
-use Rattle.server_text.specs.Reading.{number_at, text_in, texts_in}
-use Rattle.server_text.specs.AnswerReading.{denial_of, bare_refusal_in, meta_refusal_in, row_kind_in, mark_in, row_in, granted_in, meta_outcome_of, meta_outcome_in, registry_row_in, versioned_in, registry_outcome_of, registry_outcome_in}
+use Rattle.server_text.specs.AnswerText.{denial_number, meta_refusal_words, row_word, changing_word, meta_outcome_words, registry_outcome_words}
+use Rattle.server_text.specs.Reading.{number_at, text_in, texts_in, node_of}
+use Rattle.server_text.specs.AnswerReading.{denial_of, bare_refusal_in, meta_refusal_in, row_kind_in, mark_in, row_in, granted_in, is_changing, located_in, meta_outcome_of, meta_outcome_in, registry_row_in, versioned_in, registry_outcome_of, registry_outcome_in}
 use Rattle.server_text.specs.Spellable.{IsAsciiWord, IsMode, IsSpellableMeta, IsSpellableRegistry}
 use Rattle.server_text.proofs.AsciiWords.{text-IsWord, text_again}
-use Rattle.server_text.proofs.ManyAgain.{IsReadAgain, all_again, nodes_again, nodes-AreWords}
+use Rattle.server_text.proofs.ManyAgain.{IsReadAgain, all_again, nodes_again, nodes-AreWords, members_again}
 use Rattle.server_text.proofs.RequestsAgain.{mode-IsWord, mode_again}
 use Rattle.server_text.proofs.WordsAgain.{IsWord, IsWord-tested, decimal-IsWord, number_at_again, first_again, others_again}
 
@@ -65,11 +65,16 @@ refusal_name (refusal.Forbidden rule) = codes "forbidden"
 refusal_name refusal.NameBad = codes "namebad"
 refusal_name (refusal.TooFew have) = codes "toofew"
 refusal_name (refusal.Denied rule) = codes "denied"
+refusal_name (refusal.Changing version) = codes "changing"
+refusal_name refusal.NotReplicated = codes "notreplicated"
+refusal_name (refusal.UnknownOsd node) = codes "unknownosd"
 
 abbrev refusal_values : MetaRefusal → List (List ℕ)
 refusal_values (refusal.Forbidden rule) = decimal rule ∷ []
 refusal_values (refusal.TooFew have) = decimal have ∷ []
 refusal_values (refusal.Denied rule) = decimal (denial_number rule) ∷ []
+refusal_values (refusal.Changing version) = decimal version ∷ []
+refusal_values (refusal.UnknownOsd node) = decimal node.0 ∷ []
 refusal_values _ = []
 
 refusal_is : (why : MetaRefusal) → meta_refusal_words why ≡ refusal_name why ∷ refusal_values why
@@ -85,6 +90,9 @@ refusal_is (refusal.Forbidden rule) = refl
 refusal_is refusal.NameBad = refl
 refusal_is (refusal.TooFew have) = refl
 refusal_is (refusal.Denied rule) = refl
+refusal_is (refusal.Changing version) = refl
+refusal_is refusal.NotReplicated = refl
+refusal_is (refusal.UnknownOsd node) = refl
 
 refusal-IsWord : (why : MetaRefusal) → IsWord (refusal_name why)
 refusal-IsWord refusal.NotFound = IsWord-tested (codes "notfound") refl
@@ -98,6 +106,9 @@ refusal-IsWord (refusal.Forbidden rule) = IsWord-tested (codes "forbidden") refl
 refusal-IsWord refusal.NameBad = IsWord-tested (codes "namebad") refl
 refusal-IsWord (refusal.TooFew have) = IsWord-tested (codes "toofew") refl
 refusal-IsWord (refusal.Denied rule) = IsWord-tested (codes "denied") refl
+refusal-IsWord (refusal.Changing version) = IsWord-tested (codes "changing") refl
+refusal-IsWord refusal.NotReplicated = IsWord-tested (codes "notreplicated") refl
+refusal-IsWord (refusal.UnknownOsd node) = IsWord-tested (codes "unknownosd") refl
 
 refusal-AreWords : (why : MetaRefusal) → FitsMetaRefusal why → AllByRecursion IsWord (refusal_values why)
 refusal-AreWords refusal.NotFound fits = tt
@@ -111,6 +122,9 @@ refusal-AreWords (refusal.Forbidden rule) (low, high) = (decimal-IsWord rule (om
 refusal-AreWords refusal.NameBad fits = tt
 refusal-AreWords (refusal.TooFew have) fits = (decimal-IsWord have (omega arith), tt)
 refusal-AreWords (refusal.Denied rule) fits = (let small = denial_small rule in decimal-IsWord _ (omega arith), tt)
+refusal-AreWords (refusal.Changing version) fits = (decimal-IsWord version (omega arith), tt)
+refusal-AreWords refusal.NotReplicated fits = tt
+refusal-AreWords (refusal.UnknownOsd node) fits = (decimal-IsWord node.0 (omega arith), tt)
 
 refusal_again : (why : MetaRefusal) → FitsMetaRefusal why → meta_outcome_of (refusal_name why) (spaced (refusal_values why)) ≡ meta.Refused why
 unfolding meta_outcome_of meta_refusal_in bare_refusal_in
@@ -129,6 +143,17 @@ refusal_again (refusal.Denied rule) fits =
     let small = denial_small rule in
     ap (λ (x : ℕ). meta.Refused (refusal.Denied (denial_of x))) (value_again 64 (denial_number rule) small (omega arith))
     ∙ ap (λ (r : Denial). meta.Refused (refusal.Denied r)) (denial_again rule)
+refusal_again (refusal.Changing version) fits = ap (λ (x : ℕ). meta.Refused (refusal.Changing x)) (value_again 32 version (omega arith) (omega arith))
+refusal_again refusal.NotReplicated fits = refl
+refusal_again (refusal.UnknownOsd node) fits = ap (λ (x : ℕ). meta.Refused (refusal.UnknownOsd (node_of x))) (value_again 32 node.0 fits (omega arith))
+
+changing-IsWord : (changing : Bool) → IsWord (changing_word changing)
+changing-IsWord true = IsWord-tested (codes "changing") refl
+changing-IsWord false = IsWord-tested (codes "still") refl
+
+changing_again : (changing : Bool) → is_changing (changing_word changing) ≡ changing
+changing_again true = refl
+changing_again false = refl
 
 row_kind-IsWord : (kind : RowKind) → IsWord (row_word kind)
 row_kind-IsWord Directory = IsWord-tested (codes "dir") refl
@@ -170,6 +195,18 @@ unfolding granted_in
 granted_again file mark p fits =
     rw (number_at_again 64 file (decimal mark.epoch ∷ decimal mark.size ∷ []) p (omega arith), mark_again mark fits) refl
 
+located_again : (version : ℕ) (changing : Bool) (members : List NodeId) → version < 2 ^ 32 → FitsMembers members
+    → located_in (spaced (decimal version ∷ changing_word changing ∷ node_words members)) ≡ meta.Located version changing members
+unfolding located_in
+located_again version changing members p fits =
+    rw (
+      number_at_again 32 version (changing_word changing ∷ node_words members) p (omega arith),
+      first_again (changing_word changing) (node_words members) (changing-IsWord changing),
+      others_again (changing_word changing) (node_words members) (changing-IsWord changing),
+      changing_again changing,
+      members_again members fits,
+    ) refl
+
 name_is : (name : List ℕ) → IsAsciiWord name → IsReadAgain text_in (λ (n : List ℕ). n) name
 name_is name word = record { is_word = text-IsWord name word; some = word.some; again = text_again name word }
 
@@ -209,6 +246,8 @@ meta_again (meta.Row kind owner group mode mark) small (p, q, r, fits) =
     (IsWord-tested (codes "row") refl) (row_again kind owner group mode mark p q small fits)
 meta_again (meta.Granted file mark) spelled (p, fits) =
     told_again (codes "granted") (decimal file ∷ decimal mark.epoch ∷ decimal mark.size ∷ []) _ (IsWord-tested (codes "granted") refl) (granted_again file mark p fits)
+meta_again (meta.Located version changing members) spelled (p, fits) =
+    told_again (codes "located") (decimal version ∷ changing_word changing ∷ node_words members) _ (IsWord-tested (codes "located") refl) (located_again version changing members (omega arith) fits)
 
 -- Answers of the DIR.
 
@@ -264,6 +303,8 @@ meta-AreWords (meta.Row kind owner group mode mark) small (p, q, r, fits) =
     (IsWord-tested (codes "row") refl, (row_kind-IsWord kind, (decimal-IsWord owner (omega arith), (decimal-IsWord group (omega arith), (mode-IsWord mode, mark-AreWords mark fits)))))
 meta-AreWords (meta.Granted file mark) spelled (p, fits) =
     (IsWord-tested (codes "granted") refl, (decimal-IsWord file (omega arith), mark-AreWords mark fits))
+meta-AreWords (meta.Located version changing members) spelled (p, fits) =
+    (IsWord-tested (codes "located") refl, (decimal-IsWord version (omega arith), (changing-IsWord changing, nodes-AreWords members fits.each)))
 
 pub registry-AreWords : (told : RegistryOutcome) → IsSpellableRegistry told → FitsRegistryOutcome told → AllByRecursion IsWord (registry_outcome_words told)
 unfolding registry_outcome_words

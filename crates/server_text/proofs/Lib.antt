@@ -3,6 +3,7 @@ pub mod AsciiWords
 pub mod Digits
 pub mod InLine
 pub mod ManyAgain
+pub mod NodeSteps
 pub mod RequestsAgain
 pub mod WordSteps
 pub mod WordsAgain

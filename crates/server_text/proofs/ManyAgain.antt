@@ -1,14 +1,15 @@
 -- A list that was written in words is read.
-use Rattle.std.proofs.Common.{◌≡◌, ℕ, zero, suc, ◌^◌, ◌<◌, ◌≤◌, true, List, [], ◌∷◌, length, map, refl, ap, ◌∙◌, arith, length-append}
+use Rattle.std.proofs.Common.{◌≡◌, ℕ, zero, suc, ◌^◌, ◌<◌, ◌≤◌, true, leb, ◌&&◌, List, [], ◌∷◌, length, map, Some, refl, ap, ◌∙◌, arith, length-append}
 use Rattle.std.specs.Prelude.{nat_lt}
 use Rattle.std.specs.List.{AllByRecursion, list_all}
 use Rattle.std.specs.Fmt.{decimal}
-use Rattle.std.proofs.lemmas.Bool.{lt-ltb, ltb-true}
+use Rattle.std.proofs.lemmas.Bool.{leb-true, lt-ltb, ltb-true}
 use Rattle.std.proofs.lemmas.Fmt.{decimal_is_IsNumeral_wide}
+use Rattle.xt_base.specs.MemberList.{are_members, are_distinct}
 use Rattle.xt_base.specs.declared.ids.NodeId.{NodeId}
-use Rattle.xt_messages.specs.Limits.{FitsNode}
+use Rattle.xt_messages.specs.Limits.{FitsNode, FitsMembers}
 use Rattle.server_text.specs.Words.{behind, spaced, node_words}
-use Rattle.server_text.specs.Reading.{first_word, other_words, each_word, node_in, nodes_in}
+use Rattle.server_text.specs.Reading.{first_word, other_words, each_word, node_in, nodes_in, as_members, members_at}
 use Rattle.server_text.proofs.WordsAgain.{IsWord, both_are, decimal-IsWord, number_again, first_again, others_again}
 
 -- there is one word more, or none
@@ -100,3 +101,20 @@ nodes-AreWords [] fit = tt
 nodes-AreWords (node ∷ nodes) fit =
     let small : node.0 < 2 ^ 32 = fit.0 in
     (decimal-IsWord node.0 (omega arith), nodes-AreWords nodes fit.1)
+
+-- Members.
+
+pub members_few : (nodes : List NodeId) → are_members nodes ≡ true → length nodes ≤ 9
+members_few nodes h =
+    let few = both_are (leb 1 (length nodes) && leb (length nodes) 9) (are_distinct nodes) h in
+    leb-true _ _ (both_are (leb 1 (length nodes)) (leb (length nodes) 9) few.0).1
+
+members_are : (nodes : List NodeId) → are_members nodes ≡ true → as_members nodes ≡ Some nodes
+members_are nodes h = rw h refl
+
+-- members that were written are read
+pub members_again : (nodes : List NodeId) → FitsMembers nodes → members_at (spaced (node_words nodes)) ≡ Some nodes
+unfolding members_at
+members_again nodes fits =
+    ap as_members (each_again node_in (λ n. decimal n.0) 9 nodes (members_few nodes fits.different) (nodes_are nodes fits.each))
+    ∙ members_are nodes fits.different

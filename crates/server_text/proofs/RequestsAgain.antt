@@ -15,14 +15,15 @@ use Rattle.xt_messages.specs.declared.meta.MetaReq.{MetaReq}
 use Rattle.xt_messages.specs.declared.meta.MetaReq.TheVariants as request
 use Rattle.xt_messages.specs.declared.registry.RegistryReq.{RegistryReq}
 use Rattle.xt_messages.specs.declared.registry.RegistryReq.TheVariants as row
-use Rattle.xt_messages.specs.Limits.{FitsMetaReq, FitsRegistryReq}
+use Rattle.xt_messages.specs.Limits.{FitsMembers, FitsMetaReq, FitsRegistryReq}
 use Rattle.time_line.specs.Bounds.{IsWritten}
-use Rattle.server_text.specs.Words.{spaced, mode_word}
+use Rattle.server_text.specs.Words.{spaced, mode_word, node_words}
 use Rattle.server_text.specs.RequestText.{kind_word, name_or_dash, want_word, meta_words, registry_words}
 use Rattle.server_text.specs.Reading.{first_word, mode_in, text_in}
-use Rattle.server_text.specs.RequestReading.{kind_in, want_in, after_in, mkdir_in, create_in, rename_in, list_in, chmod_in, grant_in, path_request_in, meta_request_in, asked_in, meta_call_in, set_in, get_in, rows_after_in, remove_in, registry_request_in, registry_call_in}
+use Rattle.server_text.specs.RequestReading.{kind_in, want_in, after_in, mkdir_in, create_in, rename_in, list_in, chmod_in, grant_in, change_in, path_request_in, meta_request_in, asked_in, meta_call_in, set_in, get_in, rows_after_in, remove_in, registry_request_in, registry_call_in}
 use Rattle.server_text.specs.Spellable.{IsAsciiWord, IsAfter, IsMode, IsSpellableRequest, IsSpellableWish}
 use Rattle.server_text.proofs.AsciiWords.{text-IsWord, text_again}
+use Rattle.server_text.proofs.ManyAgain.{members_again, nodes-AreWords}
 use Rattle.server_text.proofs.WordsAgain.{IsWord, IsWord-tested, above, decimal-IsWord, number_at_again, first_again, others_again}
 
 -- Words of one value.
@@ -148,6 +149,17 @@ grant_again path want word low high =
       want_again want low high,
     ) refl
 
+change_again : (path : List ℕ) (nodes : List NodeId) → IsAsciiWord path → FitsMembers nodes → change_in (spaced (path ∷ node_words nodes)) ≡ request.Change path nodes
+unfolding change_in
+change_again path nodes word fits =
+    let whole = text-IsWord path word in
+    rw (
+      first_again path (node_words nodes) whole,
+      others_again path (node_words nodes) whole,
+      text_again path word,
+      members_again nodes fits,
+    ) refl
+
 -- the path that stands alone
 path_again : (made : List ℕ → MetaReq) (path : List ℕ) → IsAsciiWord path → made (text_in (first_word (spaced (path ∷ [])))) ≡ made path
 path_again made path word = rw (first_again path [] (text-IsWord path word), text_again path word) refl
@@ -188,6 +200,10 @@ meta_again user group (request.Chmod path mode) p q (word, small) fits =
 meta_again user group (request.Grant path want) p q word (r, low, high) =
     asked_again user group (codes "grant") (path ∷ want_word want ∷ []) _ p q (IsWord-tested (codes "grant") refl) (ap (call.Meta user group) (grant_again path want word low high))
 meta_again user group (request.Report capability mark) p q never fits = absurd never
+meta_again user group (request.Change path nodes) p q word (r, fits) =
+    asked_again user group (codes "change") (path ∷ node_words nodes) _ p q (IsWord-tested (codes "change") refl) (ap (call.Meta user group) (change_again path nodes word fits))
+meta_again user group (request.Locate path) p q word fits =
+    asked_again user group (codes "locate") (path ∷ []) _ p q (IsWord-tested (codes "locate") refl) (ap (call.Meta user group) (path_again request.Locate path word))
 
 -- a report that was written is read
 pub report_again : (user group file : ℕ) → user < 2 ^ 32 → group < 2 ^ 32 → file < 2 ^ 64
@@ -258,6 +274,8 @@ meta-AreWords (request.Unlink path) word fits = (IsWord-tested (codes "unlink") 
 meta-AreWords (request.Rmdir path) word fits = (IsWord-tested (codes "rmdir") refl, (text-IsWord path word, tt))
 meta-AreWords (request.List path after) (word, next) fits = (IsWord-tested (codes "list") refl, (text-IsWord path word, (after-IsWord after next, tt)))
 meta-AreWords (request.Stat path) word fits = (IsWord-tested (codes "stat") refl, (text-IsWord path word, tt))
+meta-AreWords (request.Change path nodes) word (r, fits) = (IsWord-tested (codes "change") refl, (text-IsWord path word, nodes-AreWords nodes fits.each))
+meta-AreWords (request.Locate path) word fits = (IsWord-tested (codes "locate") refl, (text-IsWord path word, tt))
 meta-AreWords (request.Chmod path mode) (word, small) fits = (IsWord-tested (codes "chmod") refl, (text-IsWord path word, (mode-IsWord mode, tt)))
 meta-AreWords (request.Grant path want) word (r, low, high) = (IsWord-tested (codes "grant") refl, (text-IsWord path word, (want-IsWord want low high, tt)))
 meta-AreWords (request.Report capability mark) never fits = absurd never
@@ -279,6 +297,8 @@ request_is_written (request.Unlink path) spelled = tt
 request_is_written (request.Rmdir path) spelled = tt
 request_is_written (request.List path after) spelled = tt
 request_is_written (request.Stat path) spelled = tt
+request_is_written (request.Change path nodes) spelled = tt
+request_is_written (request.Locate path) spelled = tt
 request_is_written (request.Chmod path mode) spelled = tt
 request_is_written (request.Grant path want) spelled = tt
 request_is_written (request.Report capability mark) never = absurd never

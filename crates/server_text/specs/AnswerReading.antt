@@ -1,6 +1,7 @@
 -- how an answer of the metadata server or the directory service is read, loosely, of what follows its name
-use Rattle.std.specs.Prelude.{ℕ, ◌==◌, if◌then◌else◌, List, codes}
+use Rattle.std.specs.Prelude.{ℕ, Bool, ◌==◌, if◌then◌else◌, List, Option, Some, None, codes}
 use Rattle.std.specs.Str.{bytes_eq}
+use Rattle.xt_base.specs.declared.ids.NodeId.{NodeId}
 use Rattle.xt_base.specs.declared.ids.SizeMark.{SizeMark}
 use Rattle.xt_messages.specs.declared.reply.Denial.{Denial}
 use Rattle.xt_messages.specs.declared.reply.Denial.TheVariants as denial
@@ -13,7 +14,7 @@ use Rattle.xt_messages.specs.declared.event.MetaOutcome.{MetaOutcome}
 use Rattle.xt_messages.specs.declared.event.MetaOutcome.TheVariants as meta
 use Rattle.xt_messages.specs.declared.event.RegistryOutcome.{RegistryOutcome}
 use Rattle.xt_messages.specs.declared.event.RegistryOutcome.TheVariants as registry
-use Rattle.server_text.specs.Reading.{first_word, other_words, number_at, mode_in, text_in, texts_in, node_of, nodes_in}
+use Rattle.server_text.specs.Reading.{first_word, other_words, number_at, mode_in, text_in, texts_in, node_of, nodes_in, members_at}
 
 -- the denial of a number
 unfoldable pub denial_of : ℕ → Denial
@@ -37,6 +38,7 @@ bare_refusal_in name =
     else if bytes_eq name (codes "notempty") then refusal.NotEmpty
     else if bytes_eq name (codes "intoself") then refusal.IntoSelf
     else if bytes_eq name (codes "othervolume") then refusal.OtherVolume
+    else if bytes_eq name (codes "notreplicated") then refusal.NotReplicated
     else refusal.NameBad
 
 unfoldable pub meta_refusal_in : List ℕ → List ℕ → MetaRefusal
@@ -50,6 +52,12 @@ meta_refusal_in name words =
     else if bytes_eq name (codes "denied") then (
     let rule = number_at 64 words in
     refusal.Denied (denial_of rule.0))
+    else if bytes_eq name (codes "changing") then (
+    let version = number_at 32 words in
+    refusal.Changing version.0)
+    else if bytes_eq name (codes "unknownosd") then (
+    let node = number_at 32 words in
+    refusal.UnknownOsd (node_of node.0))
     else bare_refusal_in name
 
 abbrev pub row_kind_in : List ℕ → RowKind
@@ -73,6 +81,20 @@ granted_in words =
     let file = number_at 64 words in
     meta.Granted file.0 (mark_in file.1)
 
+-- whether a file's list is being changed, by the word that says it
+abbrev pub is_changing : List ℕ → Bool
+is_changing word = bytes_eq word (codes "changing")
+
+-- a file's list, where the nodes are members; else what isn't spelled so
+abbrev pub located_as : ℕ → Bool → Option (List NodeId) → MetaOutcome
+located_as version changing None = meta.Done
+located_as version changing (Some members) = meta.Located version changing members
+
+unfoldable pub located_in : List ℕ → MetaOutcome
+located_in words =
+    let version = number_at 32 words in
+    located_as version.0 (is_changing (first_word version.1)) (members_at (other_words version.1))
+
 -- the answer of this name
 unfoldable pub meta_outcome_of : List ℕ → List ℕ → MetaOutcome
 meta_outcome_of name words =
@@ -80,6 +102,7 @@ meta_outcome_of name words =
     else if bytes_eq name (codes "names") then meta.Names (texts_in words)
     else if bytes_eq name (codes "row") then row_in words
     else if bytes_eq name (codes "granted") then granted_in words
+    else if bytes_eq name (codes "located") then located_in words
     else meta.Refused (meta_refusal_in name words)
 
 unfoldable pub meta_outcome_in : List ℕ → MetaOutcome

@@ -1,5 +1,5 @@
 -- what the metadata server and the directory service answer, in words
-use Rattle.std.specs.Prelude.{ℕ, List, [], ◌∷◌, codes}
+use Rattle.std.specs.Prelude.{ℕ, Bool, true, false, List, [], ◌∷◌, codes}
 use Rattle.std.specs.Fmt.{decimal}
 use Rattle.xt_messages.specs.declared.reply.Denial.{Denial}
 use Rattle.xt_messages.specs.declared.reply.Denial.TheVariants as denial
@@ -35,13 +35,22 @@ meta_refusal_words (refusal.Forbidden rule) = codes "forbidden" ∷ decimal rule
 meta_refusal_words refusal.NameBad = codes "namebad" ∷ []
 meta_refusal_words (refusal.TooFew have) = codes "toofew" ∷ decimal have ∷ []
 meta_refusal_words (refusal.Denied rule) = codes "denied" ∷ decimal (denial_number rule) ∷ []
+meta_refusal_words (refusal.Changing version) = codes "changing" ∷ decimal version ∷ []
+meta_refusal_words refusal.NotReplicated = codes "notreplicated" ∷ []
+meta_refusal_words (refusal.UnknownOsd node) = codes "unknownosd" ∷ decimal node.0 ∷ []
 
 -- dir or file
 abbrev pub row_word : RowKind → List ℕ
 row_word Directory = codes "dir"
 row_word File = codes "file"
 
--- ok, a refusal, names and the names, row dir|file OWNER GROUP MODE EPOCH SIZE, granted F EPOCH SIZE
+-- changing while a file's list is being changed, else still
+abbrev pub changing_word : Bool → List ℕ
+changing_word true = codes "changing"
+changing_word false = codes "still"
+
+-- ok, a refusal, names and the names, row dir|file OWNER GROUP MODE EPOCH SIZE, granted F EPOCH SIZE,
+-- located VERSION still|changing NODES
 unfoldable pub meta_outcome_words : MetaOutcome → List (List ℕ)
 meta_outcome_words meta.Done = codes "ok" ∷ []
 meta_outcome_words (meta.Refused why) = meta_refusal_words why
@@ -49,6 +58,8 @@ meta_outcome_words (meta.Names names) = codes "names" ∷ names
 meta_outcome_words (meta.Row kind owner group mode mark) =
     codes "row" ∷ row_word kind ∷ decimal owner ∷ decimal group ∷ mode_word mode ∷ decimal mark.epoch ∷ decimal mark.size ∷ []
 meta_outcome_words (meta.Granted file mark) = codes "granted" ∷ decimal file ∷ decimal mark.epoch ∷ decimal mark.size ∷ []
+meta_outcome_words (meta.Located version changing members) =
+    codes "located" ∷ decimal version ∷ changing_word changing ∷ node_words members
 
 -- ok V, changed V, absent, row NODE KIND ADDR V, rows and the nodes
 unfoldable pub registry_outcome_words : RegistryOutcome → List (List ℕ)

@@ -2,6 +2,7 @@
 use Rattle.std.specs.Prelude.{ℕ, zero, suc, List, [], ◌∷◌, ◌+◌, ◌-◌, ◌*◌, ◌%◌, ◌^◌, ◌==◌, length, min, nat_lt, if◌then◌else◌, Option, Some, None}
 use Rattle.std.specs.List.{fold, before_first, after_first}
 use Rattle.std.specs.Str.{is_utf8}
+use Rattle.xt_base.specs.MemberList.{are_members}
 use Rattle.xt_base.specs.declared.ids.NodeId.{NodeId}
 
 -- the bytes before the first space
@@ -65,6 +66,18 @@ node_of number = record { 0 = number }
 -- the node that a word numbers, or the greatest one
 abbrev pub node_in : List ℕ → NodeId
 node_in word = node_of (number_of 32 word)
+
+-- the nodes that the first words number, at most so many of them
+abbrev pub nodes_of : ℕ → List ℕ → List NodeId
+nodes_of most words = each_word node_in most words
+
+-- these nodes, where they are one to nine different ones
+abbrev pub as_members : List NodeId → Option (List NodeId)
+as_members nodes = if are_members nodes then Some nodes else None
+
+-- the members of a file that the words number
+unfoldable pub members_at : List ℕ → Option (List NodeId)
+members_at words = as_members (nodes_of 9 words)
 
 -- the nodes that words number
 unfoldable pub nodes_in : List ℕ → List NodeId

@@ -1,6 +1,7 @@
 -- how a request to the metadata server or the directory service is read, loosely, of what follows its verb
-use Rattle.std.specs.Prelude.{ℕ, if◌then◌else◌, List, [], codes}
+use Rattle.std.specs.Prelude.{ℕ, if◌then◌else◌, List, [], Option, Some, None, codes}
 use Rattle.std.specs.Str.{bytes_eq}
+use Rattle.xt_base.specs.declared.ids.NodeId.{NodeId}
 use Rattle.xt_messages.specs.declared.event.Call.{Call}
 use Rattle.xt_messages.specs.declared.event.Call.TheVariants as call
 use Rattle.xt_messages.specs.declared.file.Kind.{Kind}
@@ -9,7 +10,7 @@ use Rattle.xt_messages.specs.declared.meta.MetaReq.{MetaReq}
 use Rattle.xt_messages.specs.declared.meta.MetaReq.TheVariants as request
 use Rattle.xt_messages.specs.declared.registry.RegistryReq.{RegistryReq}
 use Rattle.xt_messages.specs.declared.registry.RegistryReq.TheVariants as row
-use Rattle.server_text.specs.Reading.{first_word, other_words, number_at, mode_in, text_in, node_of}
+use Rattle.server_text.specs.Reading.{first_word, other_words, number_at, mode_in, text_in, node_of, members_at}
 
 abbrev pub kind_in : List ℕ → Kind
 kind_in word = if bytes_eq word (codes "str") then Striped else Replicated
@@ -49,11 +50,20 @@ chmod_in words = request.Chmod (text_in (first_word words)) (mode_in (first_word
 unfoldable pub grant_in : List ℕ → MetaReq
 grant_in words = request.Grant (text_in (first_word words)) (want_in (first_word (other_words words)))
 
+-- a new list, where the nodes are members; else what isn't spelled so
+abbrev pub changed_to : List ℕ → Option (List NodeId) → MetaReq
+changed_to path None = request.Locate path
+changed_to path (Some nodes) = request.Change path nodes
+
+unfoldable pub change_in : List ℕ → MetaReq
+change_in words = changed_to (text_in (first_word words)) (members_at (other_words words))
+
 -- the request of this verb, of those that have a path alone
 unfoldable pub path_request_in : List ℕ → List ℕ → MetaReq
 path_request_in verb words =
     if bytes_eq verb (codes "unlink") then request.Unlink (text_in (first_word words))
     else if bytes_eq verb (codes "rmdir") then request.Rmdir (text_in (first_word words))
+    else if bytes_eq verb (codes "locate") then request.Locate (text_in (first_word words))
     else request.Stat (text_in (first_word words))
 
 -- the request of this verb, of all but a report
@@ -65,6 +75,7 @@ meta_request_in verb words =
     else if bytes_eq verb (codes "list") then list_in words
     else if bytes_eq verb (codes "chmod") then chmod_in words
     else if bytes_eq verb (codes "grant") then grant_in words
+    else if bytes_eq verb (codes "change") then change_in words
     else path_request_in verb words
 
 -- what a user asks of the MRC: a report is a call of its own

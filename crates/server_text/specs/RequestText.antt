@@ -7,7 +7,7 @@ use Rattle.xt_messages.specs.declared.meta.MetaReq.{MetaReq}
 use Rattle.xt_messages.specs.declared.meta.MetaReq.TheVariants as request
 use Rattle.xt_messages.specs.declared.registry.RegistryReq.{RegistryReq}
 use Rattle.xt_messages.specs.declared.registry.RegistryReq.TheVariants as row
-use Rattle.server_text.specs.Words.{mode_word}
+use Rattle.server_text.specs.Words.{mode_word, node_words}
 
 -- rep where each OSD has all objects, str where they are striped
 abbrev pub kind_word : Kind → List ℕ
@@ -40,6 +40,8 @@ meta_words (request.Stat path) = codes "stat" ∷ path ∷ []
 meta_words (request.Chmod path mode) = codes "chmod" ∷ path ∷ mode_word mode ∷ []
 meta_words (request.Grant path want) = codes "grant" ∷ path ∷ want_word want ∷ []
 meta_words (request.Report capability mark) = codes "report" ∷ decimal capability.file.number ∷ []
+meta_words (request.Change path nodes) = codes "change" ∷ path ∷ node_words nodes
+meta_words (request.Locate path) = codes "locate" ∷ path ∷ []
 
 -- VERB ARGS of a request to the DIR
 unfoldable pub registry_words : RegistryReq → List (List ℕ)

@@ -40,6 +40,8 @@ IsSpellableRequest (request.Stat path) = IsAsciiWord path
 IsSpellableRequest (request.Chmod path mode) = IsAsciiWord path × IsMode mode
 IsSpellableRequest (request.Grant path want) = IsAsciiWord path
 IsSpellableRequest (request.Report capability mark) = ⊥
+IsSpellableRequest (request.Change path nodes) = IsAsciiWord path
+IsSpellableRequest (request.Locate path) = IsAsciiWord path
 
 -- a request to the DIR
 abbrev pub IsSpellableWish : RegistryReq → Type 0
@@ -55,6 +57,7 @@ IsSpellableMeta (meta.Refused why) = Unit {0}
 IsSpellableMeta (meta.Names names) = AllByRecursion IsAsciiWord names
 IsSpellableMeta (meta.Row kind owner group mode mark) = IsMode mode
 IsSpellableMeta (meta.Granted file mark) = Unit {0}
+IsSpellableMeta (meta.Located version changing members) = Unit {0}
 
 -- an answer of the DIR
 abbrev pub IsSpellableRegistry : RegistryOutcome → Type 0

@@ -1,11 +1,11 @@
 //! How an answer of the metadata server or the directory service is read, loosely.
 ghost use Rattle.std.specs.Prelude.{◌≡◌, IfOk};
-ghost use Rattle.server_text.specs.AnswerReading.{denial_of, bare_refusal_in, meta_refusal_in, row_kind_in, mark_in, row_in, granted_in, meta_outcome_of, meta_outcome_in, registry_row_in, versioned_in, registry_outcome_of, registry_outcome_in};
+ghost use Rattle.server_text.specs.AnswerReading.{denial_of, bare_refusal_in, meta_refusal_in, row_kind_in, mark_in, row_in, granted_in, is_changing, located_as, located_in, meta_outcome_of, meta_outcome_in, registry_row_in, versioned_in, registry_outcome_of, registry_outcome_in};
 
-use crate::lists::{names_in, nodes_in};
+use crate::lists::{members_at, names_in, nodes_in};
 use crate::words::{cut, mode_of, name_of, u8_at, u32_at, u64_at};
 use std::alloc::Global;
-use xt_base::{NodeId, OutOfMemory, SizeMark};
+use xt_base::{Members, NodeId, OutOfMemory, SizeMark};
 use xt_messages::{Denial, MetaOutcome, MetaRefusal, RegistryOutcome, RegistryRow, RowKind};
 
 /// The denial of a number.
@@ -47,6 +47,8 @@ fn bare_refusal(name: &[u8]) -> MetaRefusal
         MetaRefusal::IntoSelf
     } else if name == b"othervolume".as_slice() {
         MetaRefusal::OtherVolume
+    } else if name == b"notreplicated".as_slice() {
+        MetaRefusal::NotReplicated
     } else {
         MetaRefusal::NameBad
     }
@@ -68,6 +70,12 @@ fn refusal_of(name: &[u8], words: &[u8]) -> MetaRefusal
         MetaRefusal::Denied {
             rule: denial_of(number),
         }
+    } else if name == b"changing".as_slice() {
+        let (version, _) = u32_at(words);
+        MetaRefusal::Changing { version }
+    } else if name == b"unknownosd".as_slice() {
+        let (node, _) = u32_at(words);
+        MetaRefusal::UnknownOsd { node: NodeId(node) }
     } else {
         bare_refusal(name)
     }
@@ -124,6 +132,37 @@ fn granted(words: &[u8]) -> MetaOutcome
     }
 }
 
+/// `still` or `changing`
+fn is_changing(word: &[u8]) -> bool
+    ensures { result ≡ is_changing word.now }
+{
+    word == b"changing".as_slice()
+}
+
+/// A file's list, if these nodes are one; else what isn't spelled so.
+fn located_as(version: u32, changing: bool, members: Option<Members>) -> MetaOutcome
+    ensures { result ≡ located_as version changing members }
+{
+    match members {
+        Some(members) => MetaOutcome::Located {
+            version,
+            changing,
+            members,
+        },
+        None => MetaOutcome::Done,
+    }
+}
+
+/// `VERSION still|changing NODES`
+#[tactic(auto, unfolding(crate::specs::AnswerReading::located_in))]
+fn located(words: &[u8]) -> MetaOutcome
+    ensures { result ≡ located_in words.now }
+{
+    let (version, words) = u32_at(words);
+    let (word, words) = cut(words);
+    located_as(version, is_changing(word), members_at(words))
+}
+
 /// An answer of the MRC of this name.
 #[tactic(auto, unfolding(crate::specs::AnswerReading::meta_outcome_of))]
 fn meta_outcome_of(alloc: Global, name: &[u8], words: &[u8]) -> Result<MetaOutcome, OutOfMemory>
@@ -138,6 +177,8 @@ fn meta_outcome_of(alloc: Global, name: &[u8], words: &[u8]) -> Result<MetaOutco
         Ok(row(words))
     } else if name == b"granted".as_slice() {
         Ok(granted(words))
+    } else if name == b"located".as_slice() {
+        Ok(located(words))
     } else {
         let refusal = refusal_of(name, words);
         Ok(MetaOutcome::Refused { refusal })

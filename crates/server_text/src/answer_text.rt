@@ -3,7 +3,7 @@ ghost use Rattle.std.specs.Prelude.{◌≡◌, ◌++◌, ◌∷◌, [], OnOk, co
 ghost use Rattle.std.specs.Fmt.{decimal};
 ghost use Rattle.server_text.specs.Words.{behind, mode_word, node_words};
 ghost use Rattle.server_text.specs.WordText.{phrase_words};
-ghost use Rattle.server_text.specs.AnswerText.{denial_number, meta_refusal_words, row_word, meta_outcome_words, registry_outcome_words};
+ghost use Rattle.server_text.specs.AnswerText.{denial_number, meta_refusal_words, row_word, changing_word, meta_outcome_words, registry_outcome_words};
 
 use crate::spelling::{
     Phrase, Word, push_counted, push_lone, push_nodes, push_phrase, push_word, push_words,
@@ -42,6 +42,9 @@ pub fn meta_refusal(refusal: &MetaRefusal) -> Phrase
         MetaRefusal::NameBad => Phrase::Lone(b"namebad"),
         MetaRefusal::TooFew { have } => Phrase::Counted(b"toofew", u64::from(*have)),
         MetaRefusal::Denied { rule } => Phrase::Counted(b"denied", denial_number(*rule)),
+        MetaRefusal::Changing { version } => Phrase::Counted(b"changing", u64::from(*version)),
+        MetaRefusal::NotReplicated => Phrase::Lone(b"notreplicated"),
+        MetaRefusal::UnknownOsd { node } => Phrase::Counted(b"unknownosd", u64::from(node.0)),
     }
 }
 
@@ -118,6 +121,36 @@ fn push_named_names(out: &mut Vec<u8>, names: &[Name]) -> Result<(), OutOfMemory
     push_names(out, names)
 }
 
+/// Whether a file's list is being changed.
+fn changing_word(changing: bool) -> &'static [u8]
+    ensures { result.now ≡ changing_word changing }
+{
+    if changing { b"changing" } else { b"still" }
+}
+
+/// Appends ` located VERSION still|changing NODES`.
+fn push_located(
+    out: &mut Vec<u8>,
+    version: u32,
+    changing: bool,
+    members: &[NodeId],
+) -> Result<(), OutOfMemory>
+    ensures { OnOk result (out.new.items ≡
+        out.old.items ++
+        behind (codes "located" ∷ decimal version ∷ changing_word changing
+        ∷ node_words members.now)) }
+{
+    push_words(
+        out,
+        &[
+            Word::Text(b"located"),
+            Word::Small(version),
+            Word::Text(changing_word(changing)),
+        ],
+    )?;
+    push_nodes(out, members)
+}
+
 /// Appends the MRC's answer.
 #[tactic(auto, unfolding(crate::specs::AnswerText::meta_outcome_words))]
 pub fn push_meta_outcome(out: &mut Vec<u8>, answer: &MetaOutcome) -> Result<(), OutOfMemory>
@@ -136,6 +169,11 @@ pub fn push_meta_outcome(out: &mut Vec<u8>, answer: &MetaOutcome) -> Result<(), 
             mark,
         } => push_row(out, *kind, *owner, *group, *mode, *mark),
         MetaOutcome::Granted { file, mark } => push_granted(out, *file, *mark),
+        MetaOutcome::Located {
+            version,
+            changing,
+            members,
+        } => push_located(out, *version, *changing, members.as_slice()),
     }
 }
 

@@ -2,11 +2,11 @@
 ghost use Rattle.std.specs.Prelude.{◌≡◌, ◌↔◌, IsTrue, nat_lt};
 ghost use Rattle.std.specs.List.{AllByRecursion, list_all};
 ghost use Rattle.xt_base.specs.FieldLimits.{FitsPath, FitsName};
-ghost use Rattle.xt_messages.specs.Limits.{FitsStripe, FitsMark, FitsMetaReq, FitsMetaRefusal, FitsRegistryReq, FitsRow};
+ghost use Rattle.xt_messages.specs.Limits.{FitsStripe, FitsMembers, FitsMark, FitsMetaReq, FitsMetaRefusal, FitsRegistryReq, FitsRow};
 ghost use Rattle.time_line.specs.Bounds.{FitsListed, FitsMetaOutcome, FitsRegistryOutcome};
 ghost use Rattle.server_text.specs.Spellable.{is_of_word, IsAsciiWord, IsAfter, IsSpellableRequest, IsSpellableWish, IsSpellableMeta, IsSpellableRegistry};
 
-use xt_base::{COUNTS, Name, NodeId, SizeMark};
+use xt_base::{COUNTS, Members, Name, NodeId, SizeMark};
 use xt_messages::{MetaOutcome, MetaRefusal, MetaReq, RegistryOutcome, RegistryReq, RegistryRow};
 
 /// The longest path, in bytes.
@@ -14,6 +14,9 @@ const PATH: usize = 65_535;
 
 /// The longest name of a list, and the longest address, in bytes.
 const NAME: usize = 255;
+
+/// The versions of lists are below this.
+const VERSIONS: u32 = 1 << 31;
 
 /// How many modes three octal digits spell.
 const MODES: u16 = 512;
@@ -67,6 +70,14 @@ pub fn is_stripe(stripe: u32) -> bool
     (1_024..=131_072).contains(&stripe) && stripe % 1_024 == 0
 }
 
+/// Whether the nodes are one to nine different ones.
+#[tactic(auto, using(crate::proofs::ManyAgain::nodes_fit, crate::proofs::ManyAgain::nodes_pass))]
+pub fn are_members(nodes: &[NodeId]) -> bool
+    ensures { IsTrue result ↔ FitsMembers nodes.now }
+{
+    are_nodes(nodes) && Members::new(nodes).is_ok()
+}
+
 /// Whether a request to the MRC has a spelling, and values within their limits.
 pub fn is_meta_request(request: &MetaReq) -> bool
     ensures { IsTrue result ↔ (IsSpellableRequest request.now × FitsMetaReq request.now) }
@@ -88,6 +99,8 @@ pub fn is_meta_request(request: &MetaReq) -> bool
         MetaReq::Chmod { path, mode } => *mode < MODES && is_path(path),
         MetaReq::Grant { path, want } => (1..=3).contains(want) && is_path(path),
         MetaReq::Report { .. } => false,
+        MetaReq::Change { path, nodes } => is_path(path) && are_members(nodes.as_slice()),
+        MetaReq::Locate { path } => is_path(path),
     }
 }
 
@@ -130,6 +143,11 @@ fn is_refusal(refusal: &MetaRefusal) -> bool
         MetaRefusal::Forbidden { rule } => (1..=4).contains(rule),
         MetaRefusal::TooFew { have } => {
             let _fits = *have;
+            true
+        }
+        MetaRefusal::Changing { version } => *version < VERSIONS,
+        MetaRefusal::UnknownOsd { node } => {
+            let _fits = node.0;
             true
         }
         _ => true,
@@ -182,6 +200,11 @@ pub fn is_meta_outcome(told: &MetaOutcome) -> bool
             let _fits = *file;
             is_mark(mark)
         }
+        MetaOutcome::Located {
+            version,
+            changing: _,
+            members,
+        } => *version < VERSIONS && are_members(members.as_slice()),
     }
 }
 

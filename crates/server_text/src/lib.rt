@@ -17,9 +17,10 @@ mod words;
 pub use answer_forms::{denial_of, read_meta_outcome, read_registry_outcome};
 pub use answer_text::{denial_number, meta_refusal, push_meta_outcome, push_registry_outcome};
 pub use bounds::{
-    are_nodes, is_meta_outcome, is_meta_request, is_registry_outcome, is_registry_request,
+    are_members, is_meta_outcome, is_meta_request, is_registry_outcome, is_registry_request,
     is_stripe,
 };
+pub use lists::{members_at, node_in};
 pub use request_forms::{
     kind_of, read_meta_call, read_meta_request, read_registry_call, read_registry_request,
 };

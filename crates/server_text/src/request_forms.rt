@@ -1,10 +1,11 @@
 //! How a request to the metadata server or the directory service is read, loosely.
 ghost use Rattle.std.specs.Prelude.{◌≡◌, IfOk};
-ghost use Rattle.server_text.specs.RequestReading.{kind_in, want_in, after_in, mkdir_in, create_in, rename_in, list_in, chmod_in, grant_in, path_request_in, meta_request_in, asked_in, meta_call_in, set_in, get_in, rows_after_in, remove_in, registry_request_in, registry_call_in};
+ghost use Rattle.server_text.specs.RequestReading.{kind_in, want_in, after_in, mkdir_in, create_in, rename_in, list_in, chmod_in, grant_in, changed_to, change_in, path_request_in, meta_request_in, asked_in, meta_call_in, set_in, get_in, rows_after_in, remove_in, registry_request_in, registry_call_in};
 
+use crate::lists::members_at;
 use crate::words::{cut, mode_of, name_of, u8_at, u32_at, u64_at};
 use std::alloc::Global;
-use xt_base::{Name, NodeId, OutOfMemory};
+use xt_base::{Members, Name, NodeId, OutOfMemory};
 use xt_messages::{Call, Kind, MetaReq, RegistryReq};
 
 /// `rep` or `str`
@@ -124,6 +125,27 @@ fn grant(alloc: Global, words: &[u8]) -> Result<MetaReq, OutOfMemory>
     Ok(MetaReq::Grant { path, want })
 }
 
+/// A new list of members, if these nodes are one; else what isn't spelled so.
+fn changed_to(path: Name, nodes: Option<Members>) -> MetaReq
+    ensures { result ≡ changed_to path nodes }
+{
+    match nodes {
+        Some(nodes) => MetaReq::Change { path, nodes },
+        None => MetaReq::Locate { path },
+    }
+}
+
+/// `PATH NODE ..`
+#[tactic(auto, unfolding(crate::specs::RequestReading::change_in))]
+fn change(alloc: Global, words: &[u8]) -> Result<MetaReq, OutOfMemory>
+    ensures { IfOk result (λ made. made ≡ change_in words.now) }
+{
+    let (path, words) = cut(words);
+    let nodes = members_at(words);
+    let path = name_of(alloc, path)?;
+    Ok(changed_to(path, nodes))
+}
+
 /// A request of this verb, of those that have a path alone.
 #[tactic(auto, unfolding(crate::specs::RequestReading::path_request_in))]
 fn path_request(alloc: Global, verb: &[u8], words: &[u8]) -> Result<MetaReq, OutOfMemory>
@@ -135,6 +157,8 @@ fn path_request(alloc: Global, verb: &[u8], words: &[u8]) -> Result<MetaReq, Out
         Ok(MetaReq::Unlink { path })
     } else if verb == b"rmdir".as_slice() {
         Ok(MetaReq::Rmdir { path })
+    } else if verb == b"locate".as_slice() {
+        Ok(MetaReq::Locate { path })
     } else {
         Ok(MetaReq::Stat { path })
     }
@@ -157,6 +181,8 @@ pub fn read_meta_request(alloc: Global, verb: &[u8], words: &[u8]) -> Result<Met
         chmod(alloc, words)
     } else if verb == b"grant".as_slice() {
         grant(alloc, words)
+    } else if verb == b"change".as_slice() {
+        change(alloc, words)
     } else {
         path_request(alloc, verb, words)
     }

@@ -1,11 +1,11 @@
 //! Printing what the metadata server and the directory service are asked.
 ghost use Rattle.std.specs.Prelude.{◌≡◌, ◌++◌, ◌∷◌, [], OnOk, codes};
 ghost use Rattle.std.specs.Fmt.{decimal};
-ghost use Rattle.server_text.specs.Words.{behind, mode_word};
+ghost use Rattle.server_text.specs.Words.{behind, mode_word, node_words};
 ghost use Rattle.server_text.specs.WordText.{text_of};
 ghost use Rattle.server_text.specs.RequestText.{kind_word, meta_words, name_or_dash, registry_words, want_word};
 
-use crate::spelling::{Word, kind_word, push_words};
+use crate::spelling::{Word, kind_word, push_nodes, push_words};
 use xt_base::{Name, NodeId, OutOfMemory};
 use xt_messages::{Kind, MetaReq, RegistryReq};
 
@@ -122,6 +122,15 @@ fn push_grant(out: &mut Vec<u8>, path: &Name, want: u8) -> Result<(), OutOfMemor
     )
 }
 
+/// Appends ` change PATH NODE ..`.
+fn push_change(out: &mut Vec<u8>, path: &Name, nodes: &[NodeId]) -> Result<(), OutOfMemory>
+    ensures { OnOk result (out.new.items ≡
+        out.old.items ++ behind (codes "change" ∷ path.now ∷ node_words nodes.now)) }
+{
+    push_path(out, b"change", path)?;
+    push_nodes(out, nodes)
+}
+
 /// Appends a request to the MRC, as ` VERB ARGS`.
 #[tactic(auto, unfolding(crate::specs::RequestText::meta_words))]
 fn push_meta_request(out: &mut Vec<u8>, request: &MetaReq) -> Result<(), OutOfMemory>
@@ -144,6 +153,8 @@ fn push_meta_request(out: &mut Vec<u8>, request: &MetaReq) -> Result<(), OutOfMe
         MetaReq::Chmod { path, mode } => push_path_and_mode(out, b"chmod", path, *mode),
         MetaReq::Grant { path, want } => push_grant(out, path, *want),
         MetaReq::Report { capability, .. } => push_report(out, capability.file.number),
+        MetaReq::Change { path, nodes } => push_change(out, path, nodes.as_slice()),
+        MetaReq::Locate { path } => push_path(out, b"locate", path),
     }
 }
 

@@ -146,7 +146,7 @@ pub fn bytes_of(alloc: Global, digits: &[u8]) -> Result<Octets, OutOfMemory>
         bytes.push(digit_of(*high) * 16 + digit_of(*low))?;
         rest = behind;
     }
-    Ok(Octets::from(bytes))
+    Octets::from_vec(bytes)
 }
 
 /// The mode that three octal digits spell. Another word spells some mode.

@@ -23,6 +23,7 @@ use Rattle.server_rows.specs.Requests as meta
 use Rattle.server_rows.specs.Directory.{DirState, DirStep, step_of_dir, told_by, by_standing, fresh, nothing, answered, recorded, reply_to}
 use Rattle.server_rows.specs.Metadata.{MrcState, MrcStep, step_of_mrc}
 use Rattle.server_rows.specs.Metadata as mrc
+use Rattle.server_rows.proofs.Taking.{taken_or_not}
 use Rattle.world_spec.specs.NodeSteps.{to_itself}
 use Rattle.servers_end.specs.Servers.{dir_node, mrc_node, EndsAtDir, EndsAtMrc}
 
@@ -104,6 +105,11 @@ module _ (key : List ℕ) where
   mrc_stands m client number who request (standing.Again answer) = few_one (EndsAtMrc key) mrc_node (mrc.reply_to client number answer) (mrc_answer client number answer)
   mrc_stands m client number who request standing.Older = few_none (EndsAtMrc key) mrc_node
 
+  mrc_asked : (m : MrcState) (client : NodeId) (number : ℕ) (who : Asker) (request : MetaReq) → MrcFew (mrc.requested key m client number who request)
+  mrc_asked m client number who request =
+      taken_or_not MrcFew key m client number who request (mrc_stands m client number who request (standing_of m.catalogue.clients client number))
+      (few_none (EndsAtMrc key) mrc_node)
+
   mrc_rows : (m : MrcState) (from : NodeId) (rows : List RegistryRow) → MrcFew (mrc.rows_heard m from rows)
   mrc_rows m from rows = at (mrc.is_dir from)
     where
@@ -112,7 +118,7 @@ module _ (key : List ℕ) where
       at false = few_none (EndsAtMrc key) mrc_node
 
   mrc_told : (m : MrcState) (from : NodeId) (content : Payload) → MrcFew (mrc.told_by key m from content)
-  mrc_told m from (payload.Meta number user group request) = mrc_stands m from number (record { user = user; group = group }) request (standing_of m.catalogue.clients from number)
+  mrc_told m from (payload.Meta number user group request) = mrc_asked m from number (record { user = user; group = group }) request
   mrc_told m from (payload.RegistryReply number (told.Rows rows)) = mrc_rows m from rows
   mrc_told m from (payload.RegistryReply number (told.Done version)) = few_none (EndsAtMrc key) mrc_node
   mrc_told m from (payload.RegistryReply number (told.Changed version)) = few_none (EndsAtMrc key) mrc_node

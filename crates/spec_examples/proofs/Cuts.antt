@@ -1,5 +1,5 @@
 -- ranges, and pieces into which they fall
-use Rattle.std.proofs.Common.{◌≡◌, ℕ, ◌+◌, ◌*◌, ◌%◌, ◌<◌, ◌≤◌, List, ◌⊎◌, sym, subst, arith, ⊎_elim}
+use Rattle.std.proofs.Common.{◌≡◌, ℕ, ◌+◌, ◌*◌, ◌%◌, ◌≤◌, ◌⊎◌, sym, subst, arith, ⊎_elim}
 use Rattle.striping.specs.declared.Piece.{Piece}
 use Rattle.striping.specs.Cover.{IsPieceFrom, Covers}
 use Rattle.striping.proofs.OneCover.{same_pieces}

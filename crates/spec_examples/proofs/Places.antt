@@ -13,7 +13,7 @@ use Rattle.xt_protocol.specs.Stamps.{with_held}
 use Rattle.xt_protocol.specs.Heads.{new_head, head_after}
 use Rattle.replica_records.specs.RecordText.{record_text}
 use Rattle.replica_records.specs.declared.errors.RecordErr.TheVariants as error
-use Rattle.replica_records.specs.RecordFields.{recorded, record_at, record_arms, boot_record_at}
+use Rattle.replica_records.specs.RecordFields.{recorded, record_at, record_arms, written_arms, boot_record_at}
 use Rattle.xt_fields.specs.BasicFields.{byte_at, count_at, long_at}
 use Rattle.xt_wire.specs.IdFields.{boot_at}
 use Rattle.replica_records.proofs.RecordLaws.{recorded_again}
@@ -164,23 +164,23 @@ unheld : IsInPlace (fold_of []) head → ⊥
 unfolding fold_of row_in
 unheld is = omega (arith, (is 0 (version 0 1) (omega arith)).1)
 
-none : recorded (9 ∷ []) ≡ Err error.BadRecord
-unfolding recorded record_at record_arms byte_at
+none : recorded (20 ∷ []) ≡ Err error.BadRecord
+unfolding recorded record_at record_arms written_arms byte_at
 none = refl
 
 too_long : recorded (1 ∷ long 1 ++ 0 ∷ []) ≡ Err error.BadRecord
-unfolding recorded record_at record_arms byte_at boot_record_at boot_at count_at long_at
+unfolding recorded record_at record_arms written_arms byte_at boot_record_at boot_at count_at long_at
 too_long = refl
 
 pub are_bad : AreBad bad
 are_bad =
     let one = one_promise 1 (omega arith) refl in
     let two = one_promise 2 (omega arith) refl in
-    no_record [] (9 ∷ []) (texts_of (promise 1 ∷ [])) (placed [] tt tt) none
-    ▷ no_record (promise 1 ∷ []) (9 ∷ []) [] one none
+    no_record [] (20 ∷ []) (texts_of (promise 1 ∷ [])) (placed [] tt tt) none
+    ▷ no_record (promise 1 ∷ []) (20 ∷ []) [] one none
     ▷ no_record (promise 1 ∷ []) (1 ∷ long 1 ++ 0 ∷ []) [] one too_long
     ▷ out_of_place (promise 2 ∷ []) (promise 1) [] two (promise_fits 1 (omega arith)) lower
-    ▷ out_of_place (promise 2 ∷ []) (promise 1) ((9 ∷ []) ∷ []) two (promise_fits 1 (omega arith)) lower
+    ▷ out_of_place (promise 2 ∷ []) (promise 1) ((20 ∷ []) ∷ []) two (promise_fits 1 (omega arith)) lower
     ▷ out_of_place (update ∷ []) update [] one_update update_fits repeated
     ▷ out_of_place [] head [] (placed [] tt tt) head_fits unheld
     ▷ out_of_place (stage abc ∷ promise 2 ∷ update ∷ []) update (texts_of (head ∷ [])) of_each update_fits repeated_later

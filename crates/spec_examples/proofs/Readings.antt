@@ -1,8 +1,8 @@
 -- What bytes are read as, by the payloads in them.
-use Rattle.std.proofs.Common.{◌≡◌, ◌≢◌, ◌⊎◌, ◌+◌, ◌^◌, ◌<◌, ℕ, inl, inr, Bool, true, ◌&&◌, not, eqb, ltb, leb, false, List, [], ◌∷◌, ◌++◌, drop}
-use Rattle.std.proofs.Common.{length, refl, ap, sym, ◌∙◌, subst, arith, Option, Some, None}
+use Rattle.std.proofs.Common.{◌≡◌, ◌^◌, ◌<◌, ℕ, inl, inr, Bool, true, ◌&&◌, not, eqb, ltb, leb, false, List, [], ◌∷◌, ◌++◌, drop}
+use Rattle.std.proofs.Common.{length, refl, ap, sym, subst, arith, Option, Some, None}
 use Rattle.std.specs.Prelude.{slice_index}
-use Rattle.std.specs.List.{All, AllByRecursion}
+use Rattle.std.specs.List.{AllByRecursion}
 use Rattle.std.proofs.lemmas.Bool.{and_parts, eqb-false, ltb-true, leb-true}
 use Rattle.std.proofs.lemmas.List.Elements.{All-from_recursion}
 use Rattle.journal_records.specs.Records.{IsCutOff}
@@ -11,9 +11,8 @@ use Rattle.journal_areas.specs.declared.superblock.Superblock.{Superblock}
 use Rattle.journal_areas.specs.Superblocks.{superblock_in, superblock_size, current, IsSound}
 use Rattle.journal_areas.specs.Areas.{HasSuperblock, IsUnsound}
 use Rattle.journal_areas.proofs.Reaching.{Meets, met_has, met_shut}
-use Rattle.xt_journal.specs.Placed.{Placed}
-use Rattle.xt_journal.specs.Format.{header, open_gate, records, record_of, end_of, end_in, superblock_kind, IsPayload, IsGiven, AreGiven, IsJournal, Reached, StandsIn}
-use Rattle.xt_journal.specs.Reading.{ReadsAs, Stands, StandsAt, Damaged, payloads_of, placed_from, placed_in}
+use Rattle.xt_journal.specs.Format.{header, open_gate, records, record_of, end_of, end_in, superblock_kind, IsGiven, AreGiven, IsJournal, Reached, StandsIn}
+use Rattle.xt_journal.specs.Reading.{ReadsAs, Stands, Damaged, placed_from, placed_in}
 use Rattle.xt_journal.proofs.Push.{payloads_in}
 
 -- this, and what follows

@@ -15,7 +15,11 @@ pub mod Ranges
 pub mod Fields
 pub mod Frames
 pub mod Texts
+pub mod Hex
+pub mod Worked
+pub mod Messages
 pub mod Records
+pub mod OldRecords
 pub mod Served
 pub mod Sealing
 pub mod Requests

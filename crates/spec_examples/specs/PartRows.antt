@@ -1,5 +1,5 @@
 -- parts of messages of node 1, one after another
-use Rattle.std.specs.Prelude.{ℕ, Bool, Option, Some, None, List, [], ◌∷◌, ◌++◌, map, scan, take, is_none, slice_set, option_map}
+use Rattle.std.specs.Prelude.{ℕ, Bool, Option, Some, None, List, [], ◌∷◌, ◌++◌, map, scan, take, is_none, replicate, slice_set, option_map}
 use Rattle.std.specs.List.{range_with_len}
 use Rattle.message_ids.specs.declared.MessageId.{MessageId}
 use Rattle.xt_parts.specs.declared.part.Header.{Header}
@@ -31,7 +31,7 @@ changes =
     ∷ (22, 2)
     -- the length of the message: past its limit, of two parts, 0, and not that of the payload
     ∷ (23, 1)
-    ∷ (24, 4)
+    ∷ (24, 16)
     ∷ (25, 128)
     ∷ (26, 0)
     ∷ (26, 2)
@@ -128,7 +128,10 @@ seconds =
 
 -- the length of a message, and those of its parts' payloads
 abbrev pub sizes : List (ℕ × List ℕ)
-sizes = (3, 3 ∷ []) ∷ (32769, 32768 ∷ 1 ∷ []) ∷ (32770, 32768 ∷ 2 ∷ []) ∷ (98304, 32768 ∷ 32768 ∷ 32768 ∷ []) ∷ []
+sizes =
+    (3, 3 ∷ []) ∷ (32769, 32768 ∷ 1 ∷ []) ∷ (32770, 32768 ∷ 2 ∷ []) ∷ (98304, 32768 ∷ 32768 ∷ 32768 ∷ [])
+    -- the longest Status, and the longest message
+    ∷ (463990, replicate 14 32768 ++ 5238 ∷ []) ∷ (1048576, replicate 32 32768) ∷ []
 
 abbrev pub size : ℕ × List ℕ → ℕ
 size row = row.0

@@ -91,8 +91,8 @@ refused =
     ∷ (0, makes (write 1 0), begins 1 3)
     ∷ (0, replies 1 3 no_lease, asks 2 3)
     ∷ (0, replies 1 3 (reply.OldEpoch 5), refuses 3 (refusal.OldEpoch 5))
-    ∷ (0, makes (write 1 4096), begins 1 4)
-    ∷ (0, replies 1 4 (reply.TooFar 4096), refuses 4 (refusal.TooFar 4096))
+    ∷ (0, makes (write 1 16384), begins 1 4)
+    ∷ (0, replies 1 4 (reply.TooFar 16384), refuses 4 (refusal.TooFar 16384))
     ∷ (0, makes (write 1 0), begins 1 5)
     ∷ (0, replies 1 5 reply.ClientsFull, refuses 5 refusal.ClientsFull)
     ∷ []

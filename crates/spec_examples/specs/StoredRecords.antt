@@ -88,10 +88,10 @@ long n = 0 ∷ 0 ∷ 0 ∷ 0 ∷ 0 ∷ 0 ∷ 0 ∷ n ∷ []
 
 abbrev pub head_texts : List (List ℕ)
 head_texts =
-    (5 ∷ long 0 ++ long 0 ++ long 1 ++ long 2 ++ word 1 ++ long 2 ++ word 1 ++ long 1 ++ word 10 ++ long 1 ++ long 0 ++ long 3
-    ++ word 1 ++ word 0 ++ long 1 ++ word 1 ++ long 1 ++ word 1 ++ word 10 ++ long 1 ++ long 1)
-    ∷ (5 ∷ long 0 ++ long 0 ++ long 1 ++ long 2 ++ word 2 ++ long 1 ++ word 1 ++ long 3 ++ word 10 ++ long 3 ++ long 0
-    ++ (0 ∷ 0 ∷ 0 ∷ 0 ∷ 0 ∷ 2 ∷ 0 ∷ 1 ∷ []) ++ word 2 ++ word 0 ++ long 1 ++ word 1 ++ long 2 ++ word 1 ++ long 1 ++ word 1 ++ long 1 ++ word 0)
+    (15 ∷ long 0 ++ long 0 ++ long 1 ++ long 2 ++ word 1 ++ long 2 ++ word 1 ++ long 1 ++ word 10 ++ long 1 ++ long 0 ++ long 3
+    ++ word 1 ++ long 0 ++ long 1 ++ word 1 ++ long 1 ++ word 1 ++ word 10 ++ long 1 ++ long 1)
+    ∷ (15 ∷ long 0 ++ long 0 ++ long 1 ++ long 2 ++ word 2 ++ long 1 ++ word 1 ++ long 3 ++ word 10 ++ long 3 ++ long 0
+    ++ (0 ∷ 0 ∷ 0 ∷ 0 ∷ 0 ∷ 2 ∷ 0 ∷ 1 ∷ []) ++ word 2 ++ long 0 ++ long 1 ++ word 1 ++ long 2 ++ long 1 ++ long 1 ++ word 1 ++ long 1 ++ word 0)
     ∷ []
 
 -- Payloads, and the index of the first one that is no record in its place: it is none; an epoch below the promised one, a count
@@ -102,11 +102,11 @@ AreBad (row ∷ rows) = IsFirstBad row.0 row.1 × AreBad rows
 
 abbrev pub bad : List (List (List ℕ) × ℕ)
 bad =
-    ((9 ∷ []) ∷ texts_of (promise 1 ∷ []), 0)
-    ∷ (texts_of (promise 1 ∷ []) ++ (9 ∷ []) ∷ [], 1)
+    ((20 ∷ []) ∷ texts_of (promise 1 ∷ []), 0)
+    ∷ (texts_of (promise 1 ∷ []) ++ (20 ∷ []) ∷ [], 1)
     ∷ (texts_of (promise 1 ∷ []) ++ (1 ∷ long 1 ++ 0 ∷ []) ∷ [], 1)
     ∷ (texts_of (promise 2 ∷ promise 1 ∷ []), 1)
-    ∷ (texts_of (promise 2 ∷ promise 1 ∷ []) ++ (9 ∷ []) ∷ [], 1)
+    ∷ (texts_of (promise 2 ∷ promise 1 ∷ []) ++ (20 ∷ []) ∷ [], 1)
     ∷ (texts_of (update ∷ update ∷ []), 1)
     ∷ (texts_of (head ∷ []), 0)
     ∷ (texts_of (stage abc ∷ promise 2 ∷ update ∷ update ∷ head ∷ []), 3)

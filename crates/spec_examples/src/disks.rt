@@ -68,15 +68,15 @@ pub fn heads_are_spelled()
 {}
 
 /// Which records are in their places, which payload is the first that is none in its, and where its gate stands.
-#[tactic(auto, unfolding(xt_fields::specs::BasicFields::word_bytes, xt_fields::specs::BasicFields::long_bytes, xt_wire::specs::FileFields::slot_bytes))]
+#[tactic(auto, unfolding(xt_fields::specs::BasicFields::word_bytes, xt_fields::specs::BasicFields::long_bytes))]
 pub fn records_are_placed()
     ensures promises { AreRecords (promise 1 ∷ promise 2 ∷ update ∷ []) }
     ensures starts { AreRecords (promise 1 ∷ boot 1 ∷ []) }
     ensures heads { AreRecords (stage abc ∷ head ∷ []) }
     ensures bad { AreBad bad }
     ensures behind_promise { end_of (texts_of (promise 1 ∷ [])) ≡ 54 }
-    ensures behind_update { end_of (texts_of (update ∷ [])) ≡ 105 }
-    ensures behind_three { end_of (texts_of (stage abc ∷ promise 2 ∷ update ∷ [])) ≡ 208 }
+    ensures behind_update { end_of (texts_of (update ∷ [])) ≡ 113 }
+    ensures behind_three { end_of (texts_of (stage abc ∷ promise 2 ∷ update ∷ [])) ≡ 220 }
 {}
 
 /// Which body is kept: none where none was put, and else the one that was put last.

@@ -1,5 +1,5 @@
 -- records that are put after others, with bodies that are copied from a store
-use Rattle.std.proofs.Common.{◌≡◌, ◌+◌, ◌<◌, ℕ, true, false, Bool, inl, List, [], ◌∷◌, ◌++◌, length, map, take, get_or, Option, Some, None, refl, sym, ◌∙◌, ap, subst, append_assoc}
+use Rattle.std.proofs.Common.{◌≡◌, ◌+◌, ◌<◌, ℕ, true, false, cond, Bool, inl, List, [], ◌∷◌, ◌++◌, length, map, take, get_or, Option, Some, None, refl, sym, ◌∙◌, ap, subst, append_assoc}
 use Rattle.std.specs.Prelude.{filter}
 use Rattle.std.specs.List.{All, AllByRecursion}
 use Rattle.std.proofs.lemmas.Bool.{cond-true}
@@ -15,20 +15,33 @@ use Rattle.xt_messages.specs.declared.record.Folded.{Folded}
 use Rattle.xt_messages.specs.declared.record.KeepBody.{KeepBody}
 use Rattle.xt_messages.specs.declared.record.Record.{Record}
 use Rattle.xt_messages.specs.declared.record.Record.TheVariants as kept
-use Rattle.xt_protocol.specs.Folds.{fold_of, is_logged, logged_of}
-use Rattle.xt_protocol.specs.Forgetting.{records_of_row, records_of_rows, rewritten, row_without, view_of}
+use Rattle.xt_protocol.specs.Folds.{fold_of, is_logged, logged_of, widened}
+use Rattle.xt_protocol.proofs.Folds.{logged_widened}
+use Rattle.xt_protocol.specs.Forgetting.{close_of, records_of_row, records_of_rows, rewritten, row_without, view_of}
 use Rattle.xt_protocol.specs.SeenBodies.{body_by}
 use Rattle.object_store.specs.declared.copied.Copied.{Copied}
 use Rattle.object_store.specs.declared.store.Store.{Store}
-use Rattle.object_store.specs.Access.{records_of}
+use Rattle.object_store.specs.Access.{disk_of, records_of}
 use Rattle.object_store.specs.Bare.{bare_of}
-use Rattle.object_store.specs.Places.{IsPair, bytes_at}
+use Rattle.object_store.specs.Places.{bytes_at}
+use Rattle.replica_records.proofs.BodyLaws.{PutsNone, request_none}
 use Rattle.object_store.proofs.BareFolds.{fold_bare, logged_bare}
+use Rattle.object_store.proofs.Filled.{pair_of_none}
 use Rattle.store_compact.specs.Adding.{AreAdded, IsOf, all_copied_of, copied_of, plain}
 
 pub nothing_there : (told : Bool) (read : List ℕ) → bytes_at told read (record { at = 0; len = 0 }) ≡ []
 nothing_there true read = refl
 nothing_there false read = refl
+
+-- records of requests put none
+requests_none : (records : List Record) → AllByRecursion PutsNone (logged_of records)
+unfolding logged_of
+requests_none [] = tt
+requests_none (rec ∷ recs) = at (is_logged rec) refl (requests_none recs)
+  where
+    at : (b : Bool) → is_logged rec ≡ b → AllByRecursion PutsNone (filter is_logged recs) → AllByRecursion PutsNone (cond b (rec ∷ filter is_logged recs) (filter is_logged recs))
+    at true is rest = (request_none rec is, rest)
+    at false is rest = rest
 
 module _ {D : Type 0} {g : Ghosts D} (store : Store D g) where
   -- ---- records after others
@@ -47,40 +60,33 @@ module _ {D : Type 0} {g : Ghosts D} (store : Store D g) where
 
   -- ---- records without bodies
 
-  pub one_added : (old new : List Copied) (rec : Record) → new ≡ old ++ plain rec ∷ [] → copied_of store (plain rec) ≡ rec → IsPair rec (record { at = 0; len = 0 }) → AreAdded store old new (rec ∷ [])
-  one_added old new rec is same pair =
-      added_all old new (plain rec ∷ []) (rec ∷ []) is (ap (λ (r : Record). r ∷ []) same)
-      (All-push (IsOf store) [] (plain rec) (All-nil (IsOf store)) (record { pair = pair; place = inl refl }))
+  pub one_added : (old new : List Copied) (rec : Record) → new ≡ old ++ plain rec ∷ [] → PutsNone rec → AreAdded store old new (rec ∷ [])
+  one_added old new rec is none =
+      added_all old new (plain rec ∷ []) (rec ∷ []) is
+      (ap (λ (r : Record). r ∷ []) (none.stays (bytes_at g.is_told (g.kept (disk_of store)).read (record { at = 0; len = 0 }))))
+      (All-push (IsOf store) [] (plain rec) (All-nil (IsOf store)) (record { pair = pair_of_none rec (record { at = 0; len = 0 }) none refl; place = inl refl }))
 
   pub view_added : (old new : List Copied) (file : FileId) (location : Option Location) → new ≡ old ++ map plain (view_of file location) → AreAdded store old new (view_of file location)
   view_added old new file None is = added_all old new [] [] is refl (All-nil (IsOf store))
-  view_added old new file (Some location) is = one_added old new (kept.View file location) is refl refl
+  view_added old new file (Some location) is = one_added old new (kept.View file location) is (record { none = refl; stays = λ body. refl; key = refl })
 
-  logged_are : (records : List Record) → all_copied_of store (map plain (filter is_logged records)) ≡ filter is_logged records
-  logged_are [] = refl
-  logged_are (kept.Update file update ∷ rs) = logged_are rs
-  logged_are (kept.Stage file object version bytes ∷ rs) = logged_are rs
-  logged_are (kept.Boot boot ∷ rs) = logged_are rs
-  logged_are (kept.Promise file epoch ∷ rs) = logged_are rs
-  logged_are (kept.Head file head ∷ rs) = logged_are rs
-  logged_are (kept.View file location ∷ rs) = logged_are rs
-  logged_are (kept.Meta from number now nodes request ∷ rs) = ap (λ (l : List Record). kept.Meta from number now nodes request ∷ l) (logged_are rs)
+  pub close_added : (old new : List Copied) (file : FileId) (closed : Option ℕ) → new ≡ old ++ map plain (close_of file closed) → AreAdded store old new (close_of file closed)
+  close_added old new file None is = added_all old new [] [] is refl (All-nil (IsOf store))
+  close_added old new file (Some version) is = one_added old new (kept.Close file version) is (record { none = refl; stays = λ body. refl; key = refl })
 
-  logged_of_it : (records : List Record) → AllByRecursion (IsOf store) (map plain (filter is_logged records))
-  logged_of_it [] = tt
-  logged_of_it (kept.Update file update ∷ rs) = logged_of_it rs
-  logged_of_it (kept.Stage file object version bytes ∷ rs) = logged_of_it rs
-  logged_of_it (kept.Boot boot ∷ rs) = logged_of_it rs
-  logged_of_it (kept.Promise file epoch ∷ rs) = logged_of_it rs
-  logged_of_it (kept.Head file head ∷ rs) = logged_of_it rs
-  logged_of_it (kept.View file location ∷ rs) = logged_of_it rs
-  logged_of_it (kept.Meta from number now nodes request ∷ rs) = (record { pair = refl; place = inl refl }, logged_of_it rs)
+  plain_are : (records : List Record) → AllByRecursion PutsNone records → all_copied_of store (map plain records) ≡ records
+  plain_are [] none = refl
+  plain_are (r ∷ rs) none = λ i. none.0.stays (bytes_at g.is_told (g.kept (disk_of store)).read (record { at = 0; len = 0 })) i ∷ plain_are rs none.1 i
 
-  logged_added : (old new : List Copied) (records : List Record) → new ≡ old ++ map plain (logged_of records) → AreAdded store old new (logged_of records)
-  unfolding logged_of
+  plain_of : (records : List Record) → AllByRecursion PutsNone records → AllByRecursion (IsOf store) (map plain records)
+  plain_of [] none = tt
+  plain_of (r ∷ rs) none = (record { pair = pair_of_none r (record { at = 0; len = 0 }) none.0 refl; place = inl refl }, plain_of rs none.1)
+
+  logged_added : (old new : List Copied) (records : List Record) → new ≡ old ++ map plain (map widened (logged_of records)) → AreAdded store old new (map widened (logged_of records))
   logged_added old new records is =
-      let logged = filter is_logged records in
-      added_all old new (map plain logged) logged is (logged_are records) (All-from_recursion (IsOf store) (map plain logged) (logged_of_it records))
+      let logged = map widened (logged_of records) in
+      let none = subst (AllByRecursion PutsNone) (logged_widened records) (requests_none (map widened records)) in
+      added_all old new (map plain logged) logged is (plain_are logged none) (All-from_recursion (IsOf store) (map plain logged) (plain_of logged none))
 
   -- ---- bodies
 
@@ -117,7 +123,7 @@ module _ {D : Type 0} {g : Ghosts D} (store : Store D g) (keep : List KeepBody) 
     pub of : All (IsOf store) made
 
   pub whole_added : (none one two made : List Copied) (slice : List Record) (folded : Folded) (files : List FileRow) (sought : List KeepBody) → none ≡ []
-      → one ≡ none ++ plain (kept.Boot folded.boot) ∷ [] → two ≡ one ++ map plain (logged_of slice) → slice ≡ bare_of (records_of store) → folded ≡ fold_of slice
+      → one ≡ none ++ plain (kept.Boot folded.boot) ∷ [] → two ≡ one ++ map plain (map widened (logged_of slice)) → slice ≡ bare_of (records_of store) → folded ≡ fold_of slice
       → files ≡ folded.files → sought ≡ keep
       → AreAdded store two made (records_of_rows (body_by (records_of store)) (map (row_without sought) files)) → Whole made
   unfolding rewritten
@@ -126,9 +132,9 @@ module _ {D : Type 0} {g : Ghosts D} (store : Store D g) (keep : List KeepBody) 
       let fold : folded ≡ fold_of records = is_folded ∙ ap fold_of is_slice ∙ fold_bare records in
       let boot : Record = kept.Boot (fold_of records).boot in
       let begun : AreAdded store [] one (boot ∷ []) =
-      one_added store [] one boot (first ∙ ap (λ (l : List Copied). l ++ plain (kept.Boot folded.boot) ∷ []) nothing ∙ ap (λ (f : Folded). plain (kept.Boot f.boot) ∷ []) fold) refl refl in
-      let asked : AreAdded store one two (logged_of records) =
-      logged_added store one two records (second ∙ ap (λ (l : List Record). one ++ map plain l) (ap logged_of is_slice ∙ logged_bare records)) in
+      one_added store [] one boot (first ∙ ap (λ (l : List Copied). l ++ plain (kept.Boot folded.boot) ∷ []) nothing ∙ ap (λ (f : Folded). plain (kept.Boot f.boot) ∷ []) fold) (record { none = refl; stays = λ body. refl; key = refl }) in
+      let asked : AreAdded store one two (map widened (logged_of records)) =
+      logged_added store one two records (second ∙ ap (λ (l : List Record). one ++ map plain (map widened l)) (ap logged_of is_slice ∙ logged_bare records)) in
       let said : AreAdded store two made (records_of_rows (body_by records) (map (row_without keep) (fold_of records).files)) =
       subst (λ (k : List KeepBody). AreAdded store two made (records_of_rows (body_by records) (map (row_without k) (fold_of records).files))) is_sought
       (subst (λ (rows : List FileRow). AreAdded store two made (records_of_rows (body_by records) (map (row_without sought) rows))) (is_files ∙ ap (λ (f : Folded). f.files) fold) third) in

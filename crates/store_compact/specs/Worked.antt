@@ -57,14 +57,15 @@ second_head = head_of 1 []
 abbrev pub location : Location
 location = record { version = 1; kind = kind.Replicated; stripe = 1024; members = record { 0 = 1 } ∷ [] }
 
--- Two versions of an object of the first file, the second of them put twice; one of the second file; a request among them, and a
--- second start.
+-- Two versions of an object of the first file, the second of them put twice; one of the second file, by a record of an old kind; a request
+-- among them, a list that is closed, and a second start.
 abbrev pub old : List Record
 old =
     boot 1
     ∷ kept.View (file 1) location
-    ∷ stage 2 1 (7 ∷ [])
+    ∷ kept.OldStage (file 2) 0 (stamp 1) (7 ∷ [])
     ∷ stage 1 1 (97 ∷ [])
+    ∷ kept.Close (file 1) 1
     ∷ request
     ∷ stage 1 2 (98 ∷ [])
     ∷ kept.Head (file 2) second_head
@@ -77,13 +78,14 @@ old =
 abbrev pub keep : List KeepBody
 keep = record { file = file 1; object = 0; version = stamp 2 } ∷ []
 
--- The last start, the request, then each file: of the first its list, the one body with the bytes that were put last, and its head;
--- of the second its head alone.
+-- The last start, the request, then each file: of the first its list, which one is closed, the one body with the bytes that were put
+-- last, and its head; of the second its head alone.
 abbrev pub made : List Record
 made =
     boot 2
     ∷ request
     ∷ kept.View (file 1) location
+    ∷ kept.Close (file 1) 1
     ∷ stage 1 2 (98 ∷ 99 ∷ [])
     ∷ kept.Head (file 1) first_head
     ∷ kept.Head (file 2) second_head

@@ -1,7 +1,7 @@
 ghost use Rattle.std.specs.Prelude.{◌≡◌, ◌++◌, ◌∷◌, ◌⊎◌, [], IfOk, OnOk, Contains, filter, map};
 ghost use Rattle.std.specs.List.{All};
-ghost use Rattle.xt_protocol.specs.Folds.{is_logged, logged_of};
-ghost use Rattle.xt_protocol.specs.Forgetting.{is_kept, records_of_row, records_of_rows, rewritten, row_without, stage_of, view_of};
+ghost use Rattle.xt_protocol.specs.Folds.{is_logged, logged_of, widened};
+ghost use Rattle.xt_protocol.specs.Forgetting.{close_of, is_kept, records_of_row, records_of_rows, rewritten, row_without, stage_of, view_of};
 ghost use Rattle.xt_protocol.specs.SeenBodies.{body_by};
 ghost use Rattle.object_store.specs.Access.{disk_of, log_of, records_of};
 ghost use Rattle.object_store.specs.Logs.{places_in};
@@ -54,8 +54,59 @@ fn is_logged(rec: &Record) -> bool
     ensures { result ≡ is_logged rec.now }
 {
     match rec {
-        Record::Meta { .. } => true,
+        Record::Meta { .. }
+        | Record::Choice { .. }
+        | Record::Listed { .. }
+        | Record::OldChoice { .. } => true,
         _ => false,
+    }
+}
+
+/// A copy of the record, of the kind that is written now.
+fn copy_widened(alloc: Global, rec: &Record) -> Result<Record, OutOfMemory>
+    ensures { IfOk result (λ made. made ≡ widened rec.now) }
+{
+    match rec {
+        Record::OldUpdate { file, update } => Ok(Record::Update {
+            file: *file,
+            update: update.copy(alloc)?,
+        }),
+        Record::OldStage {
+            file,
+            object,
+            version,
+            bytes,
+        } => Ok(Record::Stage {
+            file: *file,
+            object: *object,
+            version: *version,
+            bytes: bytes.copy(alloc)?,
+        }),
+        Record::OldHead { file, head } => Ok(Record::Head {
+            file: *file,
+            head: head.copy(alloc)?,
+        }),
+        Record::OldInstall {
+            file,
+            location,
+            head,
+        } => Ok(Record::Install {
+            file: *file,
+            location: *location,
+            head: head.copy(alloc)?,
+        }),
+        Record::OldChoice {
+            file,
+            location,
+            head,
+            source,
+        } => Ok(Record::Choice {
+            file: *file,
+            location: *location,
+            head: head.copy(alloc)?,
+            source: *source,
+        }),
+        _ => rec.copy(alloc),
     }
 }
 
@@ -80,14 +131,14 @@ fn put_plain(made: &mut Vec<Copied>, rec: Record) -> Result<(), OutOfMemory>
     )
 }
 
-/// Puts copies of those records that are of requests after the others, in their order.
+/// Puts copies of those records that are of requests after the others, in their order, of the kinds that are written now.
 #[tactic(auto, unfolding(xt_protocol::specs::Folds::logged_of))]
 fn put_logged(alloc: Global, made: &mut Vec<Copied>, records: &[Record]) -> Result<(), OutOfMemory>
-    ensures { OnOk result (made.new.items ≡ made.old.items ++ map plain (logged_of records.now)) }
+    ensures { OnOk result (made.new.items ≡ made.old.items ++ map plain (map widened (logged_of records.now))) }
 {
     for rec in records {
         if is_logged(rec) {
-            put_plain(made, rec.copy(alloc)?)?;
+            put_plain(made, copy_widened(alloc, rec)?)?;
         }
     }
     Ok(())
@@ -105,6 +156,20 @@ fn put_view(
         let rec = Record::View {
             file: *file,
             location: *location,
+        };
+        put_plain(made, rec)?;
+    }
+    Ok(())
+}
+
+/// Puts the record of which list of the file is closed after the others, where one is.
+fn put_close(made: &mut Vec<Copied>, file: &FileId, closed: &Option<u32>) -> Result<(), OutOfMemory>
+    ensures { OnOk result (made.new.items ≡ made.old.items ++ map plain (close_of file.now closed.now)) }
+{
+    if let Some(version) = closed {
+        let rec = Record::Close {
+            file: *file,
+            version: *version,
         };
         put_plain(made, rec)?;
     }
@@ -131,7 +196,7 @@ fn put_bodies<D: Disk>(
     Ok(())
 }
 
-/// Puts what says of a file what its row says after the others: its list, its bodies that are kept, and its head.
+/// Puts what says of a file what its row says after the others: its list, which list is closed, its bodies that are kept, and its head.
 fn put_row<D: Disk>(
     alloc: Global,
     made: &mut Vec<Copied>,
@@ -143,6 +208,7 @@ fn put_row<D: Disk>(
         (records_of_row (body_by (records_of store.now)) (row_without keep.now row.now))) }
 {
     put_view(made, &row.file, &row.location)?;
+    put_close(made, &row.file, &row.closed)?;
     put_bodies(alloc, made, store, row, keep)?;
     let rec = Record::Head {
         file: row.file,
@@ -170,7 +236,7 @@ fn put_rows<D: Disk>(
 }
 
 /// The records that say what the store's say, but for the held bodies that aren't to be kept: the last start, the requests in their order,
-/// and then file by file its list, its kept bodies and its head.
+/// and then file by file its list, which list is closed, its kept bodies and its head. None of them is of an old kind.
 ///
 /// It goes through the records once, and finds each body by its place. No body is read: each is to be copied from there.
 #[tactic(auto, unfolding(xt_protocol::specs::Forgetting::rewritten))]

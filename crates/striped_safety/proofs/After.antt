@@ -27,7 +27,7 @@ use Rattle.striped_safety.specs.Members.{Member, Lies, beyond, has_of, number_in
 use Rattle.striped_safety.specs.StripedWorld.{Setting, Asked, width_of, stripe_of, node_at, id_of, ops_of, Affects, StaysIn}
 use Rattle.striped_safety.specs.After.{content_made, epoch_by, epoch_after, epoch_from, epoch_made, IsAfter, least_of, Rises, HasDone}
 use Rattle.striped_safety.proofs.Shown.{lies_aside}
-use Rattle.striped_safety.proofs.Updates.{old_after, write_lies, truncation_lies}
+use Rattle.striped_safety.proofs.Updates.{old_after, write_lies, truncation_real, truncation_lies}
 use Rattle.striped_safety.proofs.MemberRows.{Takes, limit_of, few_of}
 
 -- ---- one operation more
@@ -75,7 +75,7 @@ inside_of stripe object at bytes allowed = ltb-false stripe (at + length bytes) 
 
 -- what changes and what doesn't, by the content and the epoch
 moved : (s : Setting) (xs ys : List Asked) (bound more place : ℕ) (m : Member) → IsAfter s xs bound place m → bound ≤ more
-    → ((o : ℕ) → o < NO_OBJECT → o % width_of s ≡ place → Lies (stripe_of s) (content_made s ys) o (has_of m o))
+    → ((o : ℕ) → o % width_of s ≡ place → Lies (stripe_of s) (content_made s ys) o (has_of m o))
     → epoch_made ys ≡ epoch_made xs → length (content_made s xs) ≤ length (content_made s ys)
     → ((x : Asked) → Has x ys → Affects (width_of s) place x.op → x.number ≤ number_of m s.client.0) → IsAfter s ys more place m
 moved s xs ys bound more place m is above lies epoch long had =
@@ -106,14 +106,14 @@ aside s xs a bound more place m is above allowed not = by_op a.op refl allowed n
     by_op (Read object at len) e allowed not =
         let content : content_made s (xs ++ a ∷ []) ≡ content_made s xs = content_push s xs a ∙ ap (content_after (stripe_of s) (content_made s xs)) e in
         let epoch : epoch_made (xs ++ a ∷ []) ≡ epoch_made xs = epoch_push xs a ∙ ap (epoch_by (epoch_made xs) a) e in
-        moved s xs (xs ++ a ∷ []) bound more place m is above (λ o low at. subst (λ c. Lies (stripe_of s) c o (has_of m o)) (sym content) (is.lies o low at)) epoch
+        moved s xs (xs ++ a ∷ []) bound more place m is above (λ o at. subst (λ c. Lies (stripe_of s) c o (has_of m o)) (sym content) (is.lies o at)) epoch
         (let long = ap length content in omega (arith, long)) had
     by_op (Write object at bytes) e allowed not =
         let content : content_made s (xs ++ a ∷ []) ≡ overlay (content_made s xs) (place_of (stripe_of s) object at) bytes = content_push s xs a ∙ ap (content_after (stripe_of s) (content_made s xs)) e in
         let epoch : epoch_made (xs ++ a ∷ []) ≡ epoch_made xs = epoch_push xs a ∙ ap (epoch_by (epoch_made xs) a) e in
         moved s xs (xs ++ a ∷ []) bound more place m is above
-        (λ o low at2. subst (λ c. Lies (stripe_of s) c o (has_of m o)) (sym content)
-        (lies_aside (stripe_of s) object o at bytes (content_made s xs) (has_of m o) (inside_of (stripe_of s) object at bytes allowed) (λ same. not (ap (λ k. k % width_of s) (sym same) ∙ at2)) (is.lies o low at2)))
+        (λ o at2. subst (λ c. Lies (stripe_of s) c o (has_of m o)) (sym content)
+        (lies_aside (stripe_of s) object o at bytes (content_made s xs) (has_of m o) (inside_of (stripe_of s) object at bytes allowed) (λ same. not (ap (λ k. k % width_of s) (sym same) ∙ at2)) (is.lies o at2)))
         epoch
         (let long = ap length content ∙ length-overlay (content_made s xs) (place_of (stripe_of s) object at) bytes in omega (arith, long)) had
     by_op (Truncate size) e allowed not = absurd not
@@ -149,7 +149,8 @@ limit_low s members = let few = few_of s.location.members members in omega (arit
 
 -- it has done the operation
 record Did (s : Setting) (done : List Asked) (next place : ℕ) (a : Asked) (m n : Member) (u : Update) : Type 0 where
-  pub lies : (o : ℕ) → o < NO_OBJECT → o % width_of s ≡ place → Lies (stripe_of s) (content_made s (done ++ a ∷ [])) o (has_of n o)
+  pub real : u.object ≤ NO_OBJECT
+  pub lies : (o : ℕ) → o % width_of s ≡ place → Lies (stripe_of s) (content_made s (done ++ a ∷ [])) o (has_of n o)
   pub epoch : u.mark.epoch ≡ epoch_made (done ++ a ∷ [])
   pub size : u.mark.size ≤ length (content_made s (done ++ a ∷ []))
   pub reach : least_of (stripe_of s) a.op ≤ u.mark.size
@@ -177,10 +178,11 @@ module _ (s : Setting) (members : are_members s.location.members ≡ true) (some
       let before = is.size in
       subst (λ (v : Update). Did s done (suc a.number) place a m (with_update v) v) same
       (record {
-        lies = λ o h place_of_o. (
+        real = omega (arith, low, is_low);
+        lies = λ o place_of_o. (
             subst (λ c. Lies (stripe_of s) c o (has_of (with_update w) o)) (sym content)
             (write_lies s.file (node_at s place) m (stripe_of s) (m.head.stamp.count + 1) (id_of s a) object at bytes (content_made s done) is.old (omega arith) (inside_of (stripe_of s) object at bytes allowed)
-            (omega (arith, low, is_low)) o h (is.lies o h place_of_o))
+            (omega (arith, low, is_low)) o (is.lies o place_of_o))
             );
         epoch = is.epoch ∙ sym epoch;
         size = omega (arith, long, before);
@@ -202,9 +204,10 @@ module _ (s : Setting) (members : are_members s.location.members ≡ true) (some
       let at_epoch = is.epoch in
       subst (λ (v : Update). Did s done (suc a.number) place a m (with_update v) v) same
       (record {
-        lies = λ o h place_of_o. (
+        real = truncation_real (stripe_of s) size some s.file (node_at s place) m (m.head.stamp.count + 1) (id_of s a) a.epoch is.old (omega arith) (omega (arith, low, last));
+        lies = λ o place_of_o. (
             subst (λ c. Lies (stripe_of s) c o (has_of (with_update t) o)) (sym content)
-            (truncation_lies (stripe_of s) size some s.file (node_at s place) m (m.head.stamp.count + 1) (id_of s a) a.epoch is.old (omega arith) (omega (arith, low, last)) (content_made s done) o h (is.lies o h place_of_o))
+            (truncation_lies (stripe_of s) size some s.file (node_at s place) m (m.head.stamp.count + 1) (id_of s a) a.epoch is.old (omega arith) (omega (arith, low, last)) (content_made s done) o (is.lies o place_of_o))
             );
         epoch = sym epoch;
         size = omega (arith, long);
@@ -228,7 +231,7 @@ module _ (s : Setting) (members : are_members s.location.members ≡ true) (some
         affects = takes.owned;
         is_after =
             record {
-              old = old_after s.file (node_at s place) m u is.old (omega (arith, count));
+              old = old_after s.file (node_at s place) m u is.old (omega (arith, count)) d.real;
               lies = d.lies;
               epoch = d.epoch;
               size = d.size;

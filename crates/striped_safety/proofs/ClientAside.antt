@@ -67,10 +67,7 @@ module _ (file : ℕ) (Is : FileId → SizeMark → Type 0) where
 
   granted_learns : (told : MetaAnswer) → AnswerMarked Is told → LearntIs file Is (waiting.granted told)
   granted_learns (answer.Granted capability size) is = is
-  granted_learns answer.Done is = tt
-  granted_learns (answer.Refused why) is = tt
-  granted_learns (answer.Names names) is = tt
-  granted_learns (answer.Row how owner group mode mark) is = tt
+  granted_learns _ is = tt
 
   module _ (now : ℕ) (held : Held) (made : MadeCall) (target : NodeId) (deadline : ℕ) where
     striped_learns : (capability : Capability) (asked : Op) (happens : Event) → made.request ≡ request.Striped capability asked → capability.file.number ≢ file

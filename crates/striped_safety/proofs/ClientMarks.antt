@@ -238,15 +238,7 @@ report_marked number bound files held k n asked fits all within is = by_call k f
 
     written : (user group : ℕ) (wanted : MetaReq) → FitsCall (call.Meta user group wanted) → RequestMarked (IsWithin bound number) n (request.Meta user group wanted)
     written user group (wish.Report capability mark) fits = absurd fits.3
-    written user group (wish.Mkdir path mode) fits = tt
-    written user group (wish.Create path mode what width stripe) fits = tt
-    written user group (wish.Rename from to) fits = tt
-    written user group (wish.Unlink path) fits = tt
-    written user group (wish.Rmdir path) fits = tt
-    written user group (wish.List path after) fits = tt
-    written user group (wish.Stat path) fits = tt
-    written user group (wish.Chmod path mode) fits = tt
-    written user group (wish.Grant path want) fits = tt
+    written user group _ fits = tt
 
     reported : (user group f : ℕ) (found : Option HeldFile) → held_of held f ≡ found → report_of user group found ≡ Some asked → RequestMarked (IsWithin bound number) n asked
     reported user group f None found wants = absurd (cc wants)

@@ -77,18 +77,7 @@ call_begun_in id (entry.Begin who k d) c is = at (is_id id (id_of who k)) is
         some_call : (a b : Call) → Some a ≡ Some b → a ≡ b
         some_call a b e = cc e
     at false is = absurd (cc is)
-call_begun_in id (entry.Done who k how) c is = absurd (cc is)
-call_begun_in id (entry.Times lease drift) c is = absurd (cc is)
-call_begun_in id (entry.File number location) c is = absurd (cc is)
-call_begun_in id (entry.Clock node clock) c is = absurd (cc is)
-call_begun_in id (entry.Tick count) c is = absurd (cc is)
-call_begun_in id (entry.Up node boot clock) c is = absurd (cc is)
-call_begun_in id (entry.Down node clock how) c is = absurd (cc is)
-call_begun_in id (entry.Held node f end) c is = absurd (cc is)
-call_begun_in id (entry.Active node f count write) c is = absurd (cc is)
-call_begun_in id (entry.Issue node f count write) c is = absurd (cc is)
-call_begun_in id (entry.Commit node f count write) c is = absurd (cc is)
-call_begun_in id (entry.Answer node f write count bytes) c is = absurd (cc is)
+call_begun_in id _ c is = absurd (cc is)
 
 begun_in : (id : OpId) (es : List Entry) (c : Call) → begun id es ≡ Some c → (who : NodeId) × (k : ℕ) × Has (entry.Begin who k c) es
 unfolding begun
@@ -114,18 +103,7 @@ module _ (file : ℕ) (es more : List Entry) (aside : AreAside file es more) whe
 
   aside_on : (e : Entry) → IsAsideTo file es e → begins_on file e ≡ None
   aside_on (entry.Begin who k c) is = is
-  aside_on (entry.Done who k how) is = refl
-  aside_on (entry.Times lease drift) is = refl
-  aside_on (entry.File number location) is = refl
-  aside_on (entry.Clock node clock) is = refl
-  aside_on (entry.Tick count) is = refl
-  aside_on (entry.Up node boot clock) is = refl
-  aside_on (entry.Down node clock how) is = refl
-  aside_on (entry.Held node f end) is = refl
-  aside_on (entry.Active node f count write) is = refl
-  aside_on (entry.Issue node f count write) is = refl
-  aside_on (entry.Commit node f count write) is = refl
-  aside_on (entry.Answer node f write count bytes) is = refl
+  aside_on _ is = refl
 
   nothing_on : (xs : List Entry) → ((e : Entry) → Has e xs → IsAsideTo file es e) → operations_on file xs ≡ []
   nothing_on [] are = refl

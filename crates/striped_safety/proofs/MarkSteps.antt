@@ -73,10 +73,7 @@ unknown_marked Is (payload.MetaReply number what) fits = at what fits
   where
     at : (what : MetaAnswer) → AnswerFits [] what → AnswerMarked Is what
     at (answer.Granted capability mark) fits = absurd (unknown capability.file.number (record { file = capability.file; location = capability.location }) fits)
-    at answer.Done fits = tt
-    at (answer.Refused why) fits = tt
-    at (answer.Names names) fits = tt
-    at (answer.Row how owner group mode mark) fits = tt
+    at _ fits = tt
 unknown_marked Is _ fits = tt
 
 one_node : (a b : Node) → Some a ≡ Some b → a ≡ b

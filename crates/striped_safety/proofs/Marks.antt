@@ -78,10 +78,7 @@ MarksAre number who w own = IsAlone number who w → Bounded number who w own
 module _ (P Q : FileId → SizeMark → Type 0) (follows : (file : FileId) (mark : SizeMark) → P file mark → Q file mark) where
   answer_map : (what : MetaAnswer) → AnswerMarked P what → AnswerMarked Q what
   answer_map (answer.Granted capability mark) is = follows capability.file mark is
-  answer_map answer.Done is = tt
-  answer_map (answer.Refused why) is = tt
-  answer_map (answer.Names names) is = tt
-  answer_map (answer.Row how owner group mode mark) is = tt
+  answer_map _ is = tt
 
   report_map : (wanted : MetaReq) → ReportMarked P wanted → ReportMarked Q wanted
   report_map (ask.Report capability mark) is = follows capability.file mark is

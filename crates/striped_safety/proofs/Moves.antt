@@ -1,5 +1,5 @@
 -- what always holds of a striped file that one client uses
-use Rattle.std.proofs.Common.{◌≡◌, ℕ, suc, ◌+◌, ◌-◌, ◌*◌, ◌%◌, ◌^◌, ◌<◌, ◌≤◌, ◌⊎◌, inl, inr, true, false, List, [], ◌∷◌, ◌++◌, length, take, refl, ap, ap₂, sym, ◌∙◌, subst, arith, if◌then◌else◌, Option, Some, None}
+use Rattle.std.proofs.Common.{◌≡◌, ℕ, suc, ◌+◌, ◌-◌, ◌*◌, ◌%◌, ◌<◌, ◌≤◌, ◌⊎◌, inl, inr, true, false, List, [], ◌∷◌, ◌++◌, length, take, refl, ap, ap₂, sym, ◌∙◌, subst, arith, if◌then◌else◌, Option, Some, None}
 use Rattle.std.specs.Prelude.{min}
 use Rattle.std.proofs.lemmas.Bool.{cases_eq, ltb-false}
 use Rattle.xt_base.specs.declared.ids.SizeMark.{SizeMark}
@@ -55,8 +55,8 @@ start_stands s =
     record {
       some = omega arith;
       members = λ p low. inl (record {
-        old = λ o v l e. absurd (cc);
-        lies = λ o l at. subst (λ c. Lies (stripe_of s) c o []) (sym (content_none s)) (lies_first (stripe_of s) o);
+        old = λ o v e. absurd (cc);
+        lies = λ o at. subst (λ c. Lies (stripe_of s) c o []) (sym (content_none s)) (lies_first (stripe_of s) o);
         epoch = sym epoch_none;
         size = omega arith;
         had = λ x has f. absurd has;
@@ -286,8 +286,7 @@ module _ (s : Setting) (is : IsSetting s) (w : StripedWorld) (st : Stands s w) (
       let epoch : epoch_made (w.done ++ a ∷ []) ≡ epoch_made w.done = epoch_push w.done a ∙ ap (epoch_by (epoch_made w.done) a) e in
       let long = ap length content in
       let most = left.size in
-      let size_is = ap (λ (x : SizeMark). x.size) says.0 in
-      let far : object < 2 ^ 32 = allowed.0 in (
+      let size_is = ap (λ (x : SizeMark). x.size) says.0 in (
         record {
           epoch = ap (λ (x : SizeMark). x.epoch) says.0 ∙ left.epoch ∙ sym epoch;
           most = omega (arith, long, most, size_is);
@@ -296,7 +295,7 @@ module _ (s : Setting) (is : IsSetting s) (w : StripedWorld) (st : Stands s w) (
           had = λ f. absurd (subst (Affects (width_of s) place) e f);
           inside = inside;
         },
-        λ owned. (has_of (w.members place) object, left.lies object (omega (arith, far)) owned, says.1),
+        λ owned. (has_of (w.members place) object, left.lies object owned, says.1),
       )
   old_ok size bytes (Read object at len) e allowed running (inr b) says = absurd (subst (Affects (width_of s) place) (ap (λ (x : Asked). x.op) (same_run w b.0 a b.1 running) ∙ e) b.2.affects)
   old_ok size bytes (Write object at new) e allowed running stands says = (changed_ok size running stands says.0 says.1, tt)
@@ -551,7 +550,7 @@ forgets_after : (s : Setting) (xs : List Asked) (bound place : ℕ) (m : Member)
 forgets_after s xs bound place m body same is =
     record {
       old = is.old;
-      lies = λ o low at. subst (Lies (stripe_of s) (content_made s xs) o) (sym (same o)) (is.lies o low at);
+      lies = λ o at. subst (Lies (stripe_of s) (content_made s xs) o) (sym (same o)) (is.lies o at);
       epoch = is.epoch;
       size = is.size;
       had = is.had;

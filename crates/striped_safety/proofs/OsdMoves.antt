@@ -87,15 +87,10 @@ module _ (s : Setting) (w : World) (node : Node) (r : Running) (o : OsdState) (h
 
 -- ---- the member that a node is
 
-pub head_alone : (row : FileRow) (rec : Option Record) → (kept_after row rec).head ≡ (kept_after (record { file = row.file; head = row.head; held = []; location = None }) rec).head
+pub head_alone : (row : FileRow) (rec : Option Record) → (kept_after row rec).head ≡ (kept_after (record { file = row.file; head = row.head; held = []; location = None; closed = None }) rec).head
 head_alone row None = refl
 head_alone row (Some (kept.Promise file epoch)) = refl
-head_alone row (Some (kept.Update file update)) = refl
-head_alone row (Some (kept.Stage file object version bytes)) = refl
-head_alone row (Some (kept.Head file head)) = refl
-head_alone row (Some (kept.View file location)) = refl
-head_alone row (Some (kept.Boot boot)) = refl
-head_alone row (Some (kept.Meta from number now nodes request)) = refl
+head_alone row (Some _) = refl
 
 -- a node stands in the list, or it doesn't
 pub place_of_node : (nodes : List NodeId) (n : ℕ) → ((place : ℕ) × (place < length nodes) × ((unwrap_or (slice_get nodes place) (record { 0 = 0 })).0 ≡ n)) ⊎ (has_node nodes n ≡ false)

@@ -77,10 +77,7 @@ acts_still node number (mark.Active k count write ∷ ms) are = next_still (entr
 acts_still node number (mark.Issue k count write ∷ ms) are = next_still (entry.Issue node k count write) (map (entry_of node) ms) tt (acts_still node number ms are.1)
 acts_still node number (mark.Commit k count write ∷ ms) are = next_still (entry.Commit node k count write) (map (entry_of node) ms) tt (acts_still node number ms are.1)
 acts_still node number (mark.Answer k write count bytes ∷ ms) are = next_still (entry.Answer node k write count bytes) (map (entry_of node) ms) tt (acts_still node number ms are.1)
-acts_still node number (mark.Begin k c ∷ ms) are = absurd (cc (are.0))
-acts_still node number (mark.Done k outcome ∷ ms) are = absurd (cc (are.0))
-acts_still node number (mark.File k location ∷ ms) are = absurd (cc (are.0))
-acts_still node number (mark.Held k end ∷ ms) are = absurd (cc (are.0))
+acts_still node number (_ ∷ ms) are = absurd (cc (are.0))
 
 marks_still : (node : NodeId) (file : FileId) (l : LeaseState) (marks : List Mark) → MarksAre file l marks → AreStill (map (entry_of node) marks)
 marks_still node file l marks (no_marks none) = subst (λ (ms : List Mark). AreStill (map (entry_of node) ms)) (sym none) none_still

@@ -9,6 +9,8 @@ use Rattle.indexmap.specs.IndexMap.{insert_entry}
 use Rattle.xt_base.specs.declared.ids.NodeId.{NodeId}
 use Rattle.xt_base.specs.declared.ids.FileId.{FileId}
 use Rattle.xt_base.specs.declared.ids.SizeMark.{SizeMark}
+use Rattle.xt_messages.specs.declared.file.Kind.{Kind}
+use Rattle.xt_messages.specs.declared.file.Kind.TheVariants as kind
 use Rattle.xt_messages.specs.declared.reply.Denial.{Denial}
 use Rattle.xt_messages.specs.declared.meta.MetaReq.{MetaReq}
 use Rattle.xt_messages.specs.declared.meta.MetaReq.TheVariants as ask
@@ -43,13 +45,14 @@ use Rattle.volume_rows.specs.declared.Picked.TheVariants as place
 use Rattle.volume_rows.specs.Paths.{Name, Path, path_in, same_path, path_cmp, is_within}
 use Rattle.volume_rows.specs.Rows.{Row, Volumes, entry_in, entry_at, with_row, without_row, rows_within, rows_outside, moved, renamed, page_of}
 use Rattle.volume_rows.specs.Rights.{ancestors, absent, allowed, directory, empty, file, first_of, outside, owned, parent_writable, reading, rule_of_read, same_volume, there}
-use Rattle.volume_rows.specs.Grants.{volume_id, volume_of, file_id, stored_of, stored_in, holds_file, with_sizes, sizes_of, sizes_set, sizes_in, granted, granted_of, unless_refused, wanted}
+use Rattle.volume_rows.specs.Grants.{volume_id, volume_of, file_id, stored_of, stored_in, holds_file, with_sizes, sizes_of, sizes_set, sizes_in, granted, granted_of, located_as, located, unless_refused, wanted}
 use Rattle.volume_rows.specs.Requests.{Outcome, done, tells, refused, after_tests, has_names, on_path, on_paths, made, new_file, file_placed, row_told, mode_put, directory_made, file_made, path_renamed, file_unlinked, directory_removed, entry_told, names_listed, mode_set}
 use Rattle.capabilities.specs.Denials.{denial_of}
 use Rattle.server_rows.specs.declared.NewSizes.{NewSizes}
 use Rattle.server_rows.specs.Requests.{outcome_of, place_of, settled, grant_settled, report_settled, grant_at, is_recorded, is_spent, nodes_for}
 use Rattle.server_rows.specs.Requests as rows
 use Rattle.server_rows.specs.Metadata.{Catalogue, MrcState, MrcStep, nothing, answered, recorded, fresh, by_standing, rows_heard, nodes_of, is_dir, told_by, handled, step_of_mrc}
+use Rattle.server_rows.proofs.Taking.{taken_or_not}
 
 -- ---- marks that are as they should be
 
@@ -358,6 +361,15 @@ module _ (Is : FileId → SizeMark → Type 0) (none_written : (f : FileId) → 
   report_good volumes f None (Some sizes) mark found are new =
       record { rows = sets_good volumes (rows.sizes_merged f sizes mark) are (merging_sets f sizes mark (sizes_marked f volumes.rows sizes are found) new); told = tt }
 
+  -- where a file is grants nothing
+  located_told : (found : Result Granting MetaRefusal) → AnswerMarked Is (located found)
+  located_told (Err why) = tt
+  located_told (Ok grant) = at grant.location.kind
+    where
+      at : (k : Kind) → AnswerMarked Is (located_as k grant.location)
+      at kind.Replicated = tt
+      at kind.Striped = tt
+
   request_good : (key : List ℕ) (volumes : Volumes) (who : Asker) (now : ℕ) (nodes : Option (List NodeId)) (request : MetaReq) → AreMarked Is volumes.rows → ReportMarked Is request → Good (outcome_of key volumes who now nodes request)
   request_good key volumes who now nodes (ask.Mkdir path mode) are new = path_good volumes (has_names 1 (path_in path)) (directory_made volumes who mode) are (λ p. mkdir_good volumes who mode p are)
   request_good key volumes who now nodes (ask.Create path mode kind n stripe) are new =
@@ -373,6 +385,8 @@ module _ (Is : FileId → SizeMark → Type 0) (none_written : (f : FileId) → 
       grant_good key volumes now want (grant_at volumes who want path) are (grant_marked volumes who want (has_names 1 (path_in path)) are)
   request_good key volumes who now nodes (ask.Report capability mark) are new =
       report_good volumes capability.file (denial_of key capability capability.file now true) (sizes_in volumes.rows capability.file) mark refl are new
+  request_good key volumes who now nodes (ask.Locate path) are new = record { rows = are; told = located_told (grant_at volumes who 1 path) }
+  request_good key volumes who now nodes (ask.Change path members) are new = record { rows = are; told = tt }
 
   -- ---- steps
 
@@ -449,7 +463,8 @@ module _ (Is : FileId → SizeMark → Type 0) (none_written : (f : FileId) → 
 
   told_steps : (key : List ℕ) (mrc : MrcState) (from : NodeId) (content : Payload) → Marked Is mrc.catalogue → PayloadMarked Is content → StepMarked (told_by key mrc from content)
   told_steps key mrc from (payload.Meta number user group request) is new =
-      stands_steps key mrc from number (record { user = user; group = group }) request (standing_of mrc.catalogue.clients from number) is new (standing_marked mrc.catalogue.clients from number is.answers)
+      taken_or_not StepMarked key mrc from number (record { user = user; group = group }) request
+      (stands_steps key mrc from number (record { user = user; group = group }) request (standing_of mrc.catalogue.clients from number) is new (standing_marked mrc.catalogue.clients from number is.answers)) (rests mrc mrc.osds is)
   told_steps key mrc from (payload.RegistryReply number what) is new = registry_steps key mrc from number what is
   told_steps key mrc from _ is new = rests mrc mrc.osds is
 

@@ -47,13 +47,7 @@ files_still node (m ∷ ms) are e (inl same) = subst IsStill (sym same) (one m a
   where
     one : (m : Mark) → IsFileMark m → IsStill (entry_of node m)
     one (mark.File file location) is = tt
-    one (mark.Begin number c) is = absurd is
-    one (mark.Done number how) is = absurd is
-    one (mark.Held file end) is = absurd is
-    one (mark.Active file count write) is = absurd is
-    one (mark.Issue file count write) is = absurd is
-    one (mark.Commit file count write) is = absurd is
-    one (mark.Answer file write count bytes) is = absurd is
+    one _ is = absurd is
 files_still node (m ∷ ms) are e (inr h) = files_still node ms are.1 e h
 
 -- what it sends concerns no file

@@ -24,6 +24,7 @@ use Rattle.server_rows.specs.Metadata.{MrcState, MrcStep, catalogue_of, nodes_of
 use Rattle.server_rows.specs.Metadata as metadata
 use Rattle.server_rows.specs.Directory.{DirState, DirStep, step_of_dir}
 use Rattle.server_rows.specs.Directory as directory
+use Rattle.server_rows.proofs.Taking.{taken_or_not}
 
 -- ---- what is sent
 
@@ -74,7 +75,9 @@ module _ (key : List ℕ) where
   mrc_listed mrc from number _ = mrc_nothing mrc
 
   mrc_told : (mrc : MrcState) (from : NodeId) (content : Payload) → MrcSends (metadata.told_by key mrc from content)
-  mrc_told mrc from (payload.Meta number user group request) = mrc_stands mrc from number (record { user = user; group = group }) request (standing_of mrc.catalogue.clients from number)
+  mrc_told mrc from (payload.Meta number user group request) =
+      taken_or_not MrcSends key mrc from number (record { user = user; group = group }) request
+      (mrc_stands mrc from number (record { user = user; group = group }) request (standing_of mrc.catalogue.clients from number)) (mrc_nothing mrc)
   mrc_told mrc from (payload.RegistryReply number what) = mrc_listed mrc from number what
   mrc_told mrc from _ = mrc_nothing mrc
 

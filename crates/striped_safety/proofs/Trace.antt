@@ -67,32 +67,12 @@ one_still x still e (inr h) = absurd h
 still_begins : (id : OpId) (e : Entry) → IsStill e → call_begun id e ≡ None
 still_begins id (entry.Begin client number c) still = absurd still
 still_begins id (entry.Done client number how) still = absurd still
-still_begins id (entry.Times lease drift) still = refl
-still_begins id (entry.File number location) still = refl
-still_begins id (entry.Clock node clock) still = refl
-still_begins id (entry.Tick count) still = refl
-still_begins id (entry.Up node boot clock) still = refl
-still_begins id (entry.Down node clock how) still = refl
-still_begins id (entry.Held node f end) still = refl
-still_begins id (entry.Active node f count write) still = refl
-still_begins id (entry.Issue node f count write) still = refl
-still_begins id (entry.Commit node f count write) still = refl
-still_begins id (entry.Answer node f write count bytes) still = refl
+still_begins id _ still = refl
 
 still_on : (file : ℕ) (e : Entry) → IsStill e → begins_on file e ≡ None
 still_on file (entry.Begin client number c) still = absurd still
 still_on file (entry.Done client number how) still = absurd still
-still_on file (entry.Times lease drift) still = refl
-still_on file (entry.File number location) still = refl
-still_on file (entry.Clock node clock) still = refl
-still_on file (entry.Tick count) still = refl
-still_on file (entry.Up node boot clock) still = refl
-still_on file (entry.Down node clock how) still = refl
-still_on file (entry.Held node f end) still = refl
-still_on file (entry.Active node f count write) still = refl
-still_on file (entry.Issue node f count write) still = refl
-still_on file (entry.Commit node f count write) still = refl
-still_on file (entry.Answer node f write count bytes) still = refl
+still_on file _ still = refl
 
 both_none : {X : Type 0} (o p : Option X) → o ≡ None → p ≡ None → option_or o p ≡ None
 both_none None p a b = b

@@ -114,7 +114,7 @@ pub record Whole (w : World) (own : List Msg) : Type 0 where
 
 -- ---- at first
 
-first_seen : (file : FileId) (n : ℕ) → nodes_seen file start_world n ≡ record { state = None; kept = record { file = file; head = new_head; held = []; location = None }; body = λ o v. [] }
+first_seen : (file : FileId) (n : ℕ) → nodes_seen file start_world n ≡ record { state = None; kept = record { file = file; head = new_head; held = []; location = None; closed = None }; body = λ o v. [] }
 unfolding node_in fold_of row_in body_kept
 first_seen file n = refl
 

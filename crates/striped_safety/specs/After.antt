@@ -39,15 +39,15 @@ epoch_made xs = epoch_from 0 xs
 abbrev pub mark_made : Setting → List Asked → SizeMark
 mark_made s xs = record { epoch = epoch_made xs; size = length (content_made s xs) }
 
--- every version that a head names is of a count that it has passed
+-- every version that a head names is of an object, and of a count that the head has passed
 abbrev pub AreOld : FileHead → Type 0
-AreOld head = (o : ℕ) (v : Stamp) → o < NO_OBJECT → version_of head.versions o ≡ Some v → v.count ≤ head.stamp.count
+AreOld head = (o : ℕ) (v : Stamp) → version_of head.versions o ≡ Some v → (o < NO_OBJECT) × (v.count ≤ head.stamp.count)
 
 -- A member after these operations: its objects lie in their content; its mark is of their epoch, and its size isn't past the end; it
 -- has had each of them that affects it, and none of this number or above.
 pub record IsAfter (s : Setting) (xs : List Asked) (bound place : ℕ) (m : Member) : Type 0 where
   pub old : AreOld m.head
-  pub lies : (o : ℕ) → o < NO_OBJECT → o % width_of s ≡ place → Lies (stripe_of s) (content_made s xs) o (has_of m o)
+  pub lies : (o : ℕ) → o % width_of s ≡ place → Lies (stripe_of s) (content_made s xs) o (has_of m o)
   pub epoch : m.head.mark.epoch ≡ epoch_made xs
   pub size : m.head.mark.size ≤ length (content_made s xs)
   pub had : (x : Asked) → Has x xs → Affects (width_of s) place x.op → x.number ≤ number_of m s.client.0

@@ -78,7 +78,7 @@ pub fn gather(alloc: Global, parts: &[Octets]) -> Result<Octets, OutOfMemory>
     for part in parts {
         made.extend_from_slice(part.as_slice())?;
     }
-    Ok(Octets::from(made))
+    Octets::from_vec(made)
 }
 
 /// The bytes of the pieces of a range, joined, are the bytes of the range; and each byte of a piece lies in the object and at the

@@ -19,7 +19,7 @@ use Rattle.xt_messages.specs.declared.reply.Retry.TheVariants as retry
 use Rattle.xt_messages.specs.declared.status.AskRefusal.{AskRefusal}
 use Rattle.xt_messages.specs.declared.status.AskRefusal.TheVariants as refusal
 use Rattle.xt_base.specs.FieldLimits.{IsCount, FitsBytes}
-use Rattle.xt_messages.specs.Limits.{FitsNode, FitsBoot, FitsOpId, FitsMark, FitsLocation, IsObject, FitsMetaReq, FitsMetaRefusal, FitsNames, FitsRegistryReq, FitsRow}
+use Rattle.xt_messages.specs.Limits.{FitsNode, FitsBoot, FitsOpId, FitsMark, FitsMembers, IsVersion, FitsLocation, IsObject, FitsMetaReq, FitsMetaRefusal, FitsNames, FitsRegistryReq, FitsRow}
 use Rattle.xt_base.specs.TimeSettings.{AreTimes}
 use Rattle.time_line.specs.declared.line.Line.{Line}
 use Rattle.time_line.specs.declared.line.Line.TheVariants as line
@@ -79,7 +79,7 @@ AreLines (l ∷ later) = FitsLine l × AllByRecursion FitsLater later
 -- the values of a refusal
 abbrev pub FitsRefusal : AskRefusal → Type 0
 FitsRefusal (refusal.Denied rule) = Unit {0}
-FitsRefusal (refusal.OldList version) = version < 2 ^ 31
+FitsRefusal (refusal.OldList version) = IsVersion version
 FitsRefusal (refusal.OldEpoch epoch) = IsCount epoch
 FitsRefusal (refusal.TooFar object) = object < 2 ^ 64
 FitsRefusal refusal.ClientsFull = Unit {0}
@@ -103,6 +103,7 @@ FitsMetaOutcome (told.Refused why) = FitsMetaRefusal why
 FitsMetaOutcome (told.Names names) = FitsNames names
 FitsMetaOutcome (told.Row kind owner group mode mark) = (owner < 2 ^ 32) × (group < 2 ^ 32) × (mode < 2 ^ 16) × FitsMark mark
 FitsMetaOutcome (told.Granted file mark) = (file < 2 ^ 64) × FitsMark mark
+FitsMetaOutcome (told.Located version changing members) = IsVersion version × FitsMembers members
 
 -- at most 256 nodes
 pub record FitsListed (nodes : List NodeId) : Type 0 where
@@ -133,6 +134,7 @@ FitsPosition node file count id = FitsNode node × (file < 2 ^ 64) × IsCount co
 abbrev pub FitsEntry : Entry → Type 0
 FitsEntry (entry.Times lease drift) = AreTimes lease drift
 FitsEntry (entry.File number location) = IsCount number × FitsLocation location
+FitsEntry (entry.List number version members) = IsCount number × IsVersion version × FitsMembers members
 FitsEntry (entry.Clock node clock) = FitsNode node × (clock < 2 ^ 62)
 FitsEntry (entry.Tick count) = count < 2 ^ 32
 FitsEntry (entry.Up node boot clock) = FitsNode node × FitsBoot boot × (clock < 2 ^ 62)

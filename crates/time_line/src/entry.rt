@@ -1,4 +1,4 @@
-use xt_base::{Boot, NodeId, Octets, OpId};
+use xt_base::{Boot, Members, NodeId, Octets, OpId};
 use xt_messages::{Call, Location, Outcome};
 
 /// How a node stopped.
@@ -25,6 +25,12 @@ pub enum Entry {
     File {
         number: u64,
         location: Location,
+    },
+    /// A file has this list from now on.
+    List {
+        number: u64,
+        version: u32,
+        members: Members,
     },
     /// A running clock was set.
     Clock {
@@ -104,6 +110,11 @@ impl Drop for Entry {
             Entry::File {
                 number: _,
                 location: _,
+            } => {}
+            Entry::List {
+                number: _,
+                version: _,
+                members: _,
             } => {}
             Entry::Clock { node: _, clock: _ } => {}
             Entry::Tick { count: _ } => {}

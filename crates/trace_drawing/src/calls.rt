@@ -34,6 +34,7 @@ pub(crate) fn file_of_call(call: &Call) -> Option<u64> {
 pub(crate) fn file_of(entry: &Entry) -> Option<u64> {
     match entry {
         Entry::File { number, .. } => Some(*number),
+        Entry::List { number, .. } => Some(*number),
         Entry::Begin { call, .. } => file_of_call(call),
         Entry::Held { file, .. } => Some(*file),
         Entry::Active { file, .. } => Some(*file),

@@ -50,6 +50,18 @@ fn push_file(out: &mut Vec<u8>, number: u64, location: &Location) -> Result<(), 
     )
 }
 
+fn push_list(out: &mut Vec<u8>, number: u64, version: u32) -> Result<(), OutOfMemory> {
+    push_words(
+        out,
+        &[
+            Word::Text(b"the list of file "),
+            Word::Name(number),
+            Word::Text(b" is now version "),
+            Word::Name(u64::from(version)),
+        ],
+    )
+}
+
 fn push_up(out: &mut Vec<u8>, boot: Boot) -> Result<(), OutOfMemory> {
     push_words(out, &[Word::Text(b"starts, boot "), Word::Name(boot.0)])
 }
@@ -253,6 +265,11 @@ fn push_entry(
     match entry {
         Entry::Times { lease, drift } => push_times(out, *lease, *drift),
         Entry::File { number, location } => push_file(out, *number, location),
+        Entry::List {
+            number,
+            version,
+            members: _,
+        } => push_list(out, *number, *version),
         Entry::Clock { node: _, clock } => {
             push_words(out, &[Word::Text(b"clock set to "), Word::Count(*clock)])
         }
@@ -322,7 +339,7 @@ fn push_entry(
 /// Appends the file that an entry names, where a picture has several.
 fn push_of_file(out: &mut Vec<u8>, entry: &Entry) -> Result<(), OutOfMemory> {
     match entry {
-        Entry::File { .. } => Ok(()),
+        Entry::File { .. } | Entry::List { .. } => Ok(()),
         _ => match file_of(entry) {
             None => Ok(()),
             Some(file) => push_words(out, &[Word::Text(b", file "), Word::Name(file)]),
@@ -343,7 +360,7 @@ pub(crate) fn label_of(
     if several {
         push_of_file(&mut out, entry)?;
     }
-    Ok(Octets::from(out))
+    Octets::from_vec(out)
 }
 
 /// What each entry says.

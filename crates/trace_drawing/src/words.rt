@@ -93,7 +93,7 @@ pub(crate) fn push_words(out: &mut Vec<u8>, words: &[Word<'_>]) -> Result<(), Ou
 pub(crate) fn words(alloc: Global, words: &[Word<'_>]) -> Result<Octets, OutOfMemory> {
     let mut out = Vec::new(alloc);
     push_words(&mut out, words)?;
-    Ok(Octets::from(out))
+    Octets::from_vec(out)
 }
 
 /// The name of a node.

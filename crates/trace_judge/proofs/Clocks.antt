@@ -39,19 +39,12 @@ module _ (node : NodeId) (file ticks : ℕ) where
   ends end true (Some r) (Some s) tells = (tells.0, tells.1, refl)
 
   more : (r : Option Reading) (s : Option RunningBoot) (e : Entry) → TellsStanding ticks r s → TellsStanding (ticks_after ticks e) (reading_after node file ticks r e) (standing_after node file s e)
-  more r s (entry.Times lease drift) tells = tells
-  more r s (entry.File number location) tells = tells
   more r s (entry.Clock m clock) tells = told clock (m.0 == node.0) r s tells
   more r s (entry.Tick count) tells = ticked ticks count r s tells
   more r s (entry.Up m boot clock) tells = up (m.0 == node.0) clock (record { boot = boot; clock = clock; end = None }) refl refl r s tells
   more r s (entry.Down m clock how) tells = down (m.0 == node.0) r s tells
-  more r s (entry.Begin client number c) tells = tells
   more r s (entry.Held m f end) tells = ends end ((m.0 == node.0) && (f == file)) r s tells
-  more r s (entry.Active m f count id) tells = tells
-  more r s (entry.Issue m f count id) tells = tells
-  more r s (entry.Commit m f count id) tells = tells
-  more r s (entry.Answer m f id count bytes) tells = tells
-  more r s (entry.Done client number ended) tells = tells
+  more r s _ tells = tells
 
 -- where the clocks have advanced to these ticks
 pub advanced_stands : (ticks later : ℕ) (r : Option Reading) (s : Option RunningBoot) → ticks ≤ later → TellsStanding ticks r s → TellsStanding later r (advances (later - ticks) s)

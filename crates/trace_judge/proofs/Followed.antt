@@ -161,19 +161,8 @@ module _ (k : Kept) (j l : Judging) (e : Entry) (claim : Option Claim) (answer e
       (f.answered ((a.id.client.0, a.id.number), (a.count, a.bytes)))
 
   same_begin : (x : Entry) → begins_well j.leases.readings.file k.calls k.ended x ≡ fits_begin j.leases.readings.file k x
-  same_begin (entry.Times lease drift) = refl
-  same_begin (entry.File number location) = refl
-  same_begin (entry.Clock node clock) = refl
-  same_begin (entry.Tick count) = refl
-  same_begin (entry.Up node boot clock) = refl
-  same_begin (entry.Down node clock how) = refl
   same_begin (entry.Begin client number c) = refl
-  same_begin (entry.Held node f end) = refl
-  same_begin (entry.Active node f count id) = refl
-  same_begin (entry.Issue node f count id) = refl
-  same_begin (entry.Commit node f count id) = refl
-  same_begin (entry.Answer node f id count bytes) = refl
-  same_begin (entry.Done client number outcome) = refl
+  same_begin _ = refl
 
   begins_fit : begins_well j.leases.readings.file (λ id. call_in j.calls.rows id) (λ id. has_id j.ended.set id) e ≡ fits_begin j.leases.readings.file k e
   begins_fit =

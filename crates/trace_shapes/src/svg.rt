@@ -433,7 +433,7 @@ fn print_with(alloc: Global, rules: &[&[u8]], picture: &Picture) -> Result<Octet
     push_heads(&mut out)?;
     push_shapes(&mut out, picture.shapes.as_slice())?;
     push_ending(&mut out, b"svg")?;
-    Ok(Octets::from(out))
+    Octets::from_vec(out)
 }
 
 /// The text of a picture: an SVG.

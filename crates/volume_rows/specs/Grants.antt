@@ -7,8 +7,13 @@ use Rattle.uuid.specs.declared.Version.TheVariants as version
 use Rattle.xt_base.specs.declared.TheConstants.{COUNTS}
 use Rattle.xt_base.specs.declared.ids.FileId.{FileId}
 use Rattle.xt_base.specs.declared.ids.SizeMark.{SizeMark}
+use Rattle.xt_messages.specs.declared.file.Kind.{Kind}
+use Rattle.xt_messages.specs.declared.file.Kind.TheVariants as kind
+use Rattle.xt_messages.specs.declared.file.Location.{Location}
 use Rattle.xt_messages.specs.declared.meta.MetaRefusal.{MetaRefusal}
 use Rattle.xt_messages.specs.declared.meta.MetaRefusal.TheVariants as refusal
+use Rattle.xt_messages.specs.declared.meta.MetaAnswer.{MetaAnswer}
+use Rattle.xt_messages.specs.declared.meta.MetaAnswer.TheVariants as answer
 use Rattle.volume_rows.specs.declared.Asker.{Asker}
 use Rattle.volume_rows.specs.declared.Entry.{Entry}
 use Rattle.volume_rows.specs.declared.Stored.{Stored}
@@ -89,6 +94,16 @@ granted_at volumes who want path =
 abbrev pub granted : Volumes → Asker → ℕ → Option Path → Result Granting MetaRefusal
 granted volumes who want None = Err refusal.NameBad
 granted volumes who want (Some path) = granted_at volumes who want path
+
+-- Locate: refused as a grant for reading is; a striped file's list never changes; else where the file is, and that its list
+-- isn't being changed.
+abbrev pub located_as : Kind → Location → MetaAnswer
+located_as kind.Replicated location = answer.Located location false
+located_as kind.Striped location = answer.Refused refusal.NotReplicated
+
+abbrev pub located : Result Granting MetaRefusal → MetaAnswer
+located (Err why) = answer.Refused why
+located (Ok grant) = located_as grant.location.kind grant.location
 
 -- the file at a path, if there is one
 abbrev pub file_of : Path → Option Stored → Option FileId

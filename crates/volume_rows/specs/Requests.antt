@@ -160,7 +160,8 @@ abbrev pub on_paths : Volumes → Option Path → Option Path → (Path → Path
 on_paths volumes (Some from) (Some to) on = on from to
 on_paths volumes _ _ on = refused volumes refusal.NameBad
 
--- A request, by its kind. The root is only listed, and a file is in a volume. Grants and reports are handled beside it.
+-- A request, by its kind. The root is only listed, and a file is in a volume. Grants and reports, and what is asked of a file's
+-- list, are handled beside it.
 abbrev pub applied : Volumes → Asker → Picked → MetaReq → Outcome
 applied volumes who place (ask.Mkdir path mode) = on_path volumes (has_names 1 (path_in path)) (directory_made volumes who mode)
 applied volumes who place (ask.Create path mode kind n stripe) = on_path volumes (has_names 2 (path_in path)) (file_made volumes who mode place)
@@ -172,3 +173,5 @@ applied volumes who place (ask.Stat path) = on_path volumes (has_names 1 (path_i
 applied volumes who place (ask.Chmod path mode) = on_path volumes (has_names 1 (path_in path)) (mode_set volumes who mode)
 applied volumes who place (ask.Grant path want) = tells volumes answer.Done
 applied volumes who place (ask.Report capability mark) = tells volumes answer.Done
+applied volumes who place (ask.Change path nodes) = tells volumes answer.Done
+applied volumes who place (ask.Locate path) = tells volumes answer.Done

@@ -20,6 +20,7 @@ in_result answer.Done = Ok answer.Done
 in_result (answer.Names names) = Ok (answer.Names names)
 in_result (answer.Row kind owner group mode mark) = Ok (answer.Row kind owner group mode mark)
 in_result (answer.Granted capability mark) = Ok (answer.Granted capability mark)
+in_result (answer.Located location changing) = Ok (answer.Located location changing)
 
 -- A call gives the answer of what comes of its request, and the volumes are those after it. Where that is a refusal, or no
 -- memory is left, they stay as they were.

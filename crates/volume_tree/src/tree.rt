@@ -152,8 +152,8 @@ impl Tree {
         }
     }
 
-    /// A request on names, rights or files; a Create on the OSDs that were picked for it. A Grant or a Report does nothing: they
-    /// are handled beside this.
+    /// A request on names, rights or files; a Create on the OSDs that were picked for it. A Grant, a Report, a Change or a Locate
+    /// does nothing: they are handled beside this.
     pub fn apply(&mut self, who: Asker, req: &MetaReq, pick: &Picked) -> Result<MetaAnswer, TreeErr>
         requires { HasNumber self.old req.now }
         ensures { Comes result self.old self.new (applied self.old who pick.now req.now) }
@@ -167,7 +167,10 @@ impl Tree {
             MetaReq::List { path, after } => self.page(who, path, after),
             MetaReq::Stat { path } => self.stat(who, path),
             MetaReq::Chmod { path, mode } => self.chmod(who, path, *mode),
-            MetaReq::Grant { .. } | MetaReq::Report { .. } => Ok(MetaAnswer::Done),
+            MetaReq::Grant { .. }
+            | MetaReq::Report { .. }
+            | MetaReq::Change { .. }
+            | MetaReq::Locate { .. } => Ok(MetaAnswer::Done),
         }
     }
 

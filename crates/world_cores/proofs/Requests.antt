@@ -14,6 +14,9 @@ each_taken : (records : List Record) → AreRequests records → AllByRecursion 
 unfolding logged_of
 each_taken [] fits = tt
 each_taken (kept.Meta from number now nodes request ∷ records) fits = (can_take (kept.Meta from number now nodes request) fits.0, each_taken records fits.1)
+each_taken (kept.Choice file location head source ∷ records) fits = (tt, each_taken records fits.1)
+each_taken (kept.OldChoice file location head source ∷ records) fits = (tt, each_taken records fits.1)
+each_taken (kept.Listed file version ∷ records) fits = (tt, each_taken records fits.1)
 each_taken (_ ∷ records) fits = (tt, each_taken records fits)
 
 -- where the requests among records are within their limits, each record can be taken

@@ -31,7 +31,7 @@ within n limit over le = grind (arith, nat_tests)
 past : (n limit : ℕ) (over : Overflow) → limit < n → (if nat_lt limit n then Some over else None) ≡ Some over
 past n limit over lt = grind (arith, nat_tests)
 
-uncounted : (n len : ℕ) → n ≤ JOURNAL → len ≤ 262144 → counted (n + (6 + len)) ≡ n + (6 + len)
+uncounted : (n len : ℕ) → n ≤ JOURNAL → len ≤ 1048576 → counted (n + (6 + len)) ≡ n + (6 + len)
 uncounted n len short few = omega arith
 
 -- what the disk of a store keeps

@@ -2,7 +2,7 @@ ghost use Rattle.std.specs.Prelude.{◌≡◌, ◌<◌, ◌≤◌, ◌^◌, leng
 ghost use Rattle.xt_messages.specs.Limits.{FitsMessage};
 
 use std::alloc::{AllocError, Global};
-use xt_base::{Boot, FRAME, NodeId, Octets, OutOfMemory};
+use xt_base::{Boot, Buffer, FRAME, NodeId, OutOfMemory};
 use xt_frames::{decode, encode};
 use xt_messages::Msg;
 use xt_parts::{Joiner, cut, joins_in_order};
@@ -11,7 +11,7 @@ use xt_parts::{Joiner, cut, joins_in_order};
 const BOOT: Boot = Boot(1);
 
 /// Cuts a message and joins its parts, in order, by a joiner of its own.
-fn joined(alloc: Global, sender: NodeId, number: u64, message: &[u8]) -> Result<Octets, OutOfMemory>
+fn joined(alloc: Global, sender: NodeId, number: u64, message: &[u8]) -> Result<Buffer, OutOfMemory>
     requires sender { sender.0 < 2 ^ 32 }
     requires some { 1 ≤ length message.now }
     requires limit { length message.now ≤ FRAME }

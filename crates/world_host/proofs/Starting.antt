@@ -53,21 +53,11 @@ module _ (S : Type 0) (after : S → Record → S) (rests : (s : S) (rec : Recor
 
 catalogue_rests : (key : List ℕ) (s : Catalogue) (rec : Record) → is_logged rec ≡ false → metadata.after_record key s rec ≡ s
 catalogue_rests key s (kept.Meta from number now nodes request) is = absurd (cc)
-catalogue_rests key s (kept.Boot boot) is = refl
-catalogue_rests key s (kept.Promise file epoch) is = refl
-catalogue_rests key s (kept.Update file update) is = refl
-catalogue_rests key s (kept.Stage file object version bytes) is = refl
-catalogue_rests key s (kept.Head file head) is = refl
-catalogue_rests key s (kept.View file location) is = refl
+catalogue_rests key s _ is = refl
 
 dir_rests : (s : DirState) (rec : Record) → is_logged rec ≡ false → directory.after_record s rec ≡ s
 dir_rests s (kept.Meta from number now nodes request) is = absurd (cc)
-dir_rests s (kept.Boot boot) is = refl
-dir_rests s (kept.Promise file epoch) is = refl
-dir_rests s (kept.Update file update) is = refl
-dir_rests s (kept.Stage file object version bytes) is = refl
-dir_rests s (kept.Head file head) is = refl
-dir_rests s (kept.View file location) is = refl
+dir_rests s _ is = refl
 
 -- what a metadata server, and what a directory service knows by its records rests on the requests among them
 pub catalogue_alike : (key : List ℕ) (a b : List Record) → logged_of a ≡ logged_of b → catalogue_of key a ≡ catalogue_of key b

@@ -112,11 +112,7 @@ led_next : (row : FileRow) (rec : Option Record) → RowIs row → IfSome rec (L
 led_next row None is next = tt
 led_next row (Some (kept.Promise file epoch)) is next = record { limits = (subst FitsFile (sym next.0) is.which, next.1); own = ap Some next.0; place = next.2 }
 led_next row (Some (kept.Stage file object version bytes)) is next = record { limits = (subst FitsFile (sym next.0) is.which, next.1, next.2, next.3); own = ap Some next.0; place = tt }
-led_next row (Some (kept.Update file update)) is next = absurd next
-led_next row (Some (kept.Head file head)) is next = absurd next
-led_next row (Some (kept.View file location)) is next = absurd next
-led_next row (Some (kept.Boot boot)) is next = absurd next
-led_next row (Some (kept.Meta from number now nodes request)) is next = absurd next
+led_next row (Some _) is next = absurd next
 
 -- a step that leaves this state
 steps_is : (s : FileState) (turned : Turned) → FileIs s → NextIs s.kept turned.rec → AreSent turned.outs → StepIs s.kept (steps_to s turned)
@@ -476,7 +472,7 @@ module _ (site : Site) (here : SiteIs site) where
       some : 1 ≤ capability.location.stripe
       some = (let least = seal.place.size.least in omega (arith, least))
 
-      few : OBJECTS * length capability.location.members ≤ 36864
+      few : OBJECTS * length capability.location.members ≤ 147456
       few = (let nine = members_few (Some capability.location) seal.place in omega (arith, nine))
 
       shown : (object at len : ℕ) → FitsOp (op.Read object at len) → FitsBytes (cut_or_filled (drop at (present_body (site.body s.kept.file) (version_of s.kept.head.versions object) object)) len)

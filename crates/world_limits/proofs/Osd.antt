@@ -30,7 +30,8 @@ use Rattle.client_limits.proofs.Messages.{sent}
 use Rattle.world_limits.proofs.Files.{expired_is, step_is, wake_is}
 use Rattle.world_limits.proofs.Asks.{none_are}
 use Rattle.world_limits.specs.States.{KeptIs}
-use Rattle.world_limits.proofs.Kept.{NextOf, new_row_is, bodies_are}
+use Rattle.world_limits.proofs.Kept.{NextOf, bodies_are}
+use Rattle.world_limits.proofs.Replica.{new_row_is}
 
 -- what must hold of a step of the files of an OSD that keeps these records
 pub record FilesAre (records : List Record) (step : FilesStep) : Type 0 where
@@ -102,11 +103,7 @@ concerned_is (payload.Behind file epoch stamp) fits = fits.0
 concerned_is (payload.Missing file epoch object version) fits = fits.0
 concerned_is (payload.Ask number capability asked) fits = fits.1.subject
 concerned_is (payload.Reply number file answer) fits = fits.1
-concerned_is (payload.Meta number user group request) fits = tt
-concerned_is (payload.MetaReply number answer) fits = tt
-concerned_is (payload.Registry number request) fits = tt
-concerned_is (payload.RegistryReply number answer) fits = tt
-concerned_is (payload.Stop tag) fits = tt
+concerned_is _ fits = tt
 
 module _ (records : List Record) (site : Site) (here : SiteIs site) (awake : Awake) (is : AwakeIs awake) (files : List FileState) (all : AllByRecursion FileIs files)
     (agrees : (file : FileId) → (file_at awake files file).kept ≡ row_in (fold_of records).files file) (sound : (file : FileId) → IsSound (file_at awake files file)) where

@@ -158,11 +158,7 @@ fed_is body target known bodies is = at (find (λ (v : ObjectVersion). not (has_
 abbrev pub LedRec : FileId → FileHead → Record → Type 0
 LedRec file own (kept.Promise f epoch) = (f ≡ file) × FitsEpoch epoch × (is_at_most own.promised epoch ≡ true)
 LedRec file own (kept.Stage f object version bytes) = (f ≡ file) × IsObject object × FitsStamp version × FitsBytes bytes
-LedRec file own (kept.Update f update) = ⊥
-LedRec file own (kept.Head f head) = ⊥
-LedRec file own (kept.View f location) = ⊥
-LedRec file own (kept.Boot boot) = ⊥
-LedRec file own (kept.Meta from number now nodes request) = ⊥
+LedRec file own _ = ⊥
 
 pub record LedIs (file : FileId) (own : FileHead) (led : Led) : Type 0 where
   pub primary : PrimaryIs led.primary

@@ -8,6 +8,7 @@ use Rattle.std.proofs.lemmas.Bool.Decides.{nat_tests}
 use Rattle.std.proofs.lemmas.List.Elements.{All-from_recursion}
 use Rattle.xt_base.specs.declared.TheConstants.{OBJECTS, CLIENTS, COUNTS}
 use Rattle.xt_base.specs.declared.ids.Epoch.{Epoch}
+use Rattle.xt_base.specs.declared.ids.FileId.{FileId}
 use Rattle.xt_base.specs.declared.ids.Stamp.{Stamp}
 use Rattle.xt_messages.specs.declared.file.FileHead.{FileHead}
 use Rattle.xt_messages.specs.declared.file.ObjectVersion.{ObjectVersion}
@@ -17,9 +18,9 @@ use Rattle.xt_messages.specs.declared.record.FileRow.{FileRow}
 use Rattle.xt_messages.specs.declared.record.Record.{Record}
 use Rattle.xt_messages.specs.declared.record.Record.TheVariants as kept
 use Rattle.xt_base.specs.FieldLimits.{FitsBytes}
-use Rattle.xt_messages.specs.Limits.{FitsEpoch, FitsStamp, FitsHead, FitsUpdate, FitsVersion, FitsPayload, IsObject, is_at_most}
-use Rattle.xt_protocol.specs.Folds.{body_of, row_after}
-use Rattle.xt_protocol.specs.Heads.{head_after}
+use Rattle.xt_messages.specs.Limits.{FitsEpoch, FitsFile, FitsStamp, FitsHead, FitsUpdate, FitsVersion, FitsPayload, IsObject, is_at_most}
+use Rattle.xt_protocol.specs.Folds.{new_row, body_of, row_after}
+use Rattle.xt_protocol.specs.Heads.{new_head, head_installed, head_after}
 use Rattle.xt_protocol.specs.Stamps.{is_epoch, is_earlier, is_below, has_version}
 use Rattle.xt_protocol.specs.declared.states.Acted.{Acted}
 use Rattle.xt_protocol.specs.ReplicaRows.{only, refused, behind, as_promised, gathered, fetched_from, stage_record, staged, head_taken, first_missing, head_offered, headed, head_fits, next_update, update_offered, updated, kept_after}
@@ -38,6 +39,12 @@ earlier_at_most a b is = grind (arith, nat_tests)
 at_most_along : (a b c : Epoch) → is_at_most a b ≡ true → is_at_most b c ≡ true → is_at_most a c ≡ true
 at_most_along a b c first second = grind (arith, nat_tests)
 
+itself : (a : Epoch) → is_at_most a a ≡ true
+itself a = grind (arith, nat_tests)
+
+the_other : (a b : Epoch) → is_at_most a b ≡ false → is_at_most b a ≡ true
+the_other a b is = grind (arith, nat_tests)
+
 -- ---- heads and rows
 
 -- a head under a later promise
@@ -52,6 +59,29 @@ promised_is head epoch is fits above = record {
   kept = at_most_along head.stamp.epoch head.promised epoch is.kept above;
 }
 
+-- the head that a list begins with, under the later one of two promises
+installed_is : (own head : FileHead) → FitsHead own → FitsHead head → FitsHead (head_installed own head)
+installed_is own head is whole = at (is_at_most own.promised head.promised) refl
+  where
+    at : (later : Bool) → is_at_most own.promised head.promised ≡ later → FitsHead (record head { promised = cond later head.promised own.promised })
+    at true later = promised_is head head.promised whole whole.promise (itself head.promised)
+    at false earlier = promised_is head own.promised whole is.promise (the_other own.promised head.promised earlier)
+
+-- what a file begins as
+new_head_is : FitsHead new_head
+new_head_is = record {
+  promise = record { place = omega arith; primary = omega arith };
+  place = record { tenure = record { place = omega arith; primary = omega arith }; writes = omega arith };
+  operation = record { who = omega arith; operation = omega arith };
+  after = record { truncation = omega arith; bytes = omega arith };
+  objects = record { few = omega arith; each = tt; rising = refl };
+  clients = record { few = omega arith; each = tt; rising = refl };
+  kept = refl;
+}
+
+pub new_row_is : (file : FileId) → FitsFile file → RowIs (new_row file)
+new_row_is file which = record { which = which; stands = new_head_is; place = tt }
+
 pub lists_of : (head : FileHead) → FitsHead head → FitsLists head
 lists_of head is = record { promise = is.promise; objects = is.objects.each; clients = is.clients.each; rising = record { versions = is.objects.rising; sessions = is.clients.rising } }
 
@@ -59,11 +89,14 @@ lists_of head is = record { promise = is.promise; objects = is.objects.each; cli
 pub row_is : (row : FileRow) (rec : Record) → RowIs row → RecordIs row rec → RowIs (row_after row rec)
 row_is row (kept.Promise file epoch) is next = record { which = is.which; stands = promised_is row.head epoch is.stands next.limits.1 next.place; place = is.place }
 row_is row (kept.Update file update) is next = record { which = is.which; stands = next.place.2; place = is.place }
-row_is row (kept.Stage file object version bytes) is next = record { which = is.which; stands = is.stands; place = is.place }
+row_is row (kept.OldUpdate file update) is next = record { which = is.which; stands = next.place.2; place = is.place }
 row_is row (kept.Head file head) is next = record { which = is.which; stands = next.limits.1; place = is.place }
+row_is row (kept.OldHead file head) is next = record { which = is.which; stands = next.limits.1.fits; place = is.place }
 row_is row (kept.View file location) is next = record { which = is.which; stands = is.stands; place = next.limits.1 }
-row_is row (kept.Boot boot) is next = is
-row_is row (kept.Meta from number now nodes request) is next = is
+row_is row (kept.Install file location head) is next = record { which = is.which; stands = installed_is row.head head is.stands next.limits.2; place = next.limits.1 }
+row_is row (kept.OldInstall file location head) is next = record { which = is.which; stands = installed_is row.head head is.stands next.limits.2.fits; place = next.limits.1 }
+row_is row (kept.Forget file) is next = new_row_is row.file is.which
+row_is row _ is next = record { which = is.which; stands = is.stands; place = is.place }
 
 pub kept_is : (row : FileRow) (rec : Option Record) → RowIs row → NextIs row rec → RowIs (kept_after row rec)
 kept_is row None is next = is

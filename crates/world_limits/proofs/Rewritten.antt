@@ -1,5 +1,5 @@
 -- Rewritten records are within the limits, and each is in its place.
-use Rattle.std.proofs.Common.{◌≡◌, ◌==◌, ◌<◌, ◌-◌, ◌^◌, ◌⊎◌, inl, inr, ℕ, zero, suc, Bool, true, false, cond, List, [], ◌∷◌, ◌++◌, map, refl, sym, ap, subst, ◌∙◌, Option, Some, None, arith}
+use Rattle.std.proofs.Common.{◌≡◌, ◌==◌, ◌⊎◌, inl, inr, ℕ, zero, suc, Bool, true, false, cond, List, [], ◌∷◌, ◌++◌, map, refl, sym, ap, subst, ◌∙◌, Option, Some, None, arith}
 use Rattle.std.specs.Option.{IfSome}
 use Rattle.std.specs.List.{AllByRecursion, fold}
 use Rattle.std.specs.Ordering.{is_eq}
@@ -11,16 +11,17 @@ use Rattle.xt_base.specs.declared.ids.FileId.{FileId}
 use Rattle.xt_base.specs.declared.ids.Stamp.{Stamp}
 use Rattle.xt_messages.specs.declared.file.Location.{Location}
 use Rattle.xt_messages.specs.declared.file.ObjectVersion.{ObjectVersion}
+use Rattle.xt_messages.specs.declared.file.Update.{Update}
 use Rattle.xt_messages.specs.declared.record.FileRow.{FileRow}
 use Rattle.xt_messages.specs.declared.record.Folded.{Folded}
 use Rattle.xt_messages.specs.declared.record.KeepBody.{KeepBody}
 use Rattle.xt_messages.specs.declared.record.Record.{Record}
 use Rattle.xt_messages.specs.declared.record.Record.TheVariants as kept
-use Rattle.xt_messages.specs.Limits.{FitsBoot, FitsFile, FitsLocation, FitsVersion, FitsRecord, IsObject}
+use Rattle.xt_messages.specs.Limits.{FitsBoot, FitsFile, FitsLocation, FitsUpdate, FitsVersion, FitsRecord, IsObject, IsObjectOrNone, IsVersion}
 use Rattle.xt_protocol.specs.FileIds.{is_file, is_before, file_cmp}
 use Rattle.xt_protocol.specs.FileStates.{FileState}
-use Rattle.xt_protocol.specs.Folds.{row_in, row_after, with_row, rows_after, file_of, folded_after, nothing_kept, fold_of, is_logged, logged_of, body_of}
-use Rattle.xt_protocol.specs.Forgetting.{keep_of, is_needed, is_kept, row_without, file_without, osd_without, view_of, stage_of, records_of_row, records_of_rows, rewritten}
+use Rattle.xt_protocol.specs.Folds.{row_in, row_after, with_row, rows_after, file_of, forgets, folded_after, nothing_kept, fold_of, is_logged, logged_of, widened, body_of, held_after}
+use Rattle.xt_protocol.specs.Forgetting.{keep_of, is_needed, is_kept, row_without, file_without, osd_without, view_of, close_of, stage_of, records_of_row, records_of_rows, rewritten}
 use Rattle.xt_protocol.specs.OsdSteps.{OsdState, file_at}
 use Rattle.xt_protocol.specs.SeenBodies.{body_by}
 use Rattle.xt_protocol.specs.Stamps.{is_version, comes_before, has_version, with_held}
@@ -30,10 +31,11 @@ use Rattle.world_runs.specs.Worlds.{Agrees}
 use Rattle.world_runs.proofs.Forgotten.{rows_then}
 use Rattle.object_versions.proofs.HeadLimits.{either}
 use Rattle.replica_records.proofs.Held.{is_among}
+use Rattle.replica_records.proofs.OldLaws.{widened_fits}
 use Rattle.forgetting.proofs.Folded.{folds_rise}
 use Rattle.forgetting.proofs.Held.{met}
 use Rattle.forgetting.proofs.Named as named
-use Rattle.xt_protocol.proofs.FileRows.{FilesRise, less}
+use Rattle.xt_protocol.proofs.FileRows.{FilesRise, less, each-without_row}
 use Rattle.forgetting.proofs.Places as places
 use Rattle.world_limits.specs.States.{AreBodies, FileIs, KeptIs, OsdIs, RowIs}
 use Rattle.world_limits.proofs.Kept.{bodies_are}
@@ -42,8 +44,10 @@ use Rattle.world_limits.proofs.Lists.{all_append, all_map, all_weaker}
 
 -- ---- what is held is within the limits
 
-abbrev pub HeldFits : FileRow → Type 0
-HeldFits row = AllByRecursion FitsVersion row.held
+-- what a row holds, and the list of it that was closed
+pub record HeldFits (row : FileRow) : Type 0 where
+  pub held : AllByRecursion FitsVersion row.held
+  pub closed : IfSome row.closed IsVersion
 
 put_held : (held : List ObjectVersion) (v : ObjectVersion) → AllByRecursion FitsVersion held → FitsVersion v → AllByRecursion FitsVersion (with_held held v)
 unfolding with_held
@@ -52,22 +56,28 @@ put_held (h ∷ hs) v all is =
     either (AllByRecursion FitsVersion) (is_version h v) _ _ all
     (either (AllByRecursion FitsVersion) (comes_before v h) (v ∷ h ∷ hs) (h ∷ with_held hs v) (is, all) (all.0, put_held hs v all.1 is))
 
-row_held : (row : FileRow) (rec : Record) → HeldFits row → FitsRecord rec → HeldFits (row_after row rec)
-row_held row (kept.Promise file epoch) is fits = is
-row_held row (kept.Update file u) is fits = at (u.object == NO_OBJECT) refl
+held_then : (held : List ObjectVersion) (u : Update) → AllByRecursion FitsVersion held → FitsUpdate u → AllByRecursion FitsVersion (held_after held u)
+held_then held u all fits = at (u.object == NO_OBJECT) refl
   where
-    meant : (u.object < 2 ^ 32 - 1) ⊎ (u.object ≡ NO_OBJECT) → (u.object == NO_OBJECT) ≡ false → IsObject u.object
+    meant : IsObjectOrNone u.object → (u.object == NO_OBJECT) ≡ false → IsObject u.object
     meant (inl low) none = omega (arith, low)
     meant (inr e) none = absurd (grind (arith, nat_tests))
 
-    at : (b : Bool) → (u.object == NO_OBJECT) ≡ b → AllByRecursion FitsVersion (cond b row.held (with_held row.held (body_of u.object u.stamp)))
-    at true none = is
-    at false some = put_held row.held (body_of u.object u.stamp) is (record { which = meant fits.1.gets some; write = fits.1.place })
-row_held row (kept.Stage file object version bytes) is fits = put_held row.held (body_of object version) is (record { which = fits.1; write = fits.2 })
-row_held row (kept.Head file head) is fits = is
-row_held row (kept.View file location) is fits = is
-row_held row (kept.Boot boot) is fits = is
-row_held row (kept.Meta from number now nodes request) is fits = is
+    at : (b : Bool) → (u.object == NO_OBJECT) ≡ b → AllByRecursion FitsVersion (cond b held (with_held held (body_of u.object u.stamp)))
+    at true none = all
+    at false some = put_held held (body_of u.object u.stamp) all (record { which = meant fits.gets some; write = fits.place })
+
+row_held : (row : FileRow) (rec : Record) → HeldFits row → FitsRecord rec → HeldFits (row_after row rec)
+row_held row (kept.Update file u) is fits = record { held = held_then row.held u is.held fits.1; closed = is.closed }
+row_held row (kept.OldUpdate file u) is fits = record { held = held_then row.held u is.held fits.1.fits; closed = is.closed }
+row_held row (kept.Stage file object version bytes) is fits =
+    record { held = put_held row.held (body_of object version) is.held (record { which = fits.1; write = fits.2 }); closed = is.closed }
+row_held row (kept.OldStage file object version bytes) is fits =
+    let wide = widened_fits (kept.OldStage file object version bytes) fits in
+    record { held = put_held row.held (body_of object version) is.held (record { which = wide.1; write = wide.2 }); closed = is.closed }
+row_held row (kept.Close file version) is fits = record { held = is.held; closed = fits.1 }
+row_held row (kept.Forget file) is fits = record { held = tt; closed = tt }
+row_held row _ is fits = record { held = is.held; closed = is.closed }
 
 put_rows : (rows : List FileRow) (row : FileRow) → AllByRecursion HeldFits rows → HeldFits row → AllByRecursion HeldFits (with_row rows row)
 unfolding with_row
@@ -78,21 +88,18 @@ put_rows (r ∷ rs) row all is =
 
 read_held : (rows : List FileRow) (file : FileId) → AllByRecursion HeldFits rows → HeldFits (row_in rows file)
 unfolding row_in
-read_held [] file all = tt
+read_held [] file all = record { held = tt; closed = tt }
 read_held (r ∷ rs) file all = either HeldFits (is_file r.file file) r (row_in rs file) all.0 (read_held rs file all.1)
 
 rows_held : (rows : List FileRow) (rec : Record) (o : Option FileId) → AllByRecursion HeldFits rows → FitsRecord rec → AllByRecursion HeldFits (rows_after rows rec o)
 rows_held rows rec None all fits = all
-rows_held rows rec (Some file) all fits = put_rows rows (row_after (row_in rows file) rec) all (row_held (row_in rows file) rec (read_held rows file all) fits)
+rows_held rows rec (Some file) all fits =
+    either (AllByRecursion HeldFits) (forgets rec) _ _ (each-without_row HeldFits rows file all)
+    (put_rows rows (row_after (row_in rows file) rec) all (row_held (row_in rows file) rec (read_held rows file all) fits))
 
 boot_fits : (f : Folded) (rec : Record) → FitsBoot f.boot → FitsRecord rec → FitsBoot (folded_after f rec).boot
 boot_fits f (kept.Boot boot) is fits = fits
-boot_fits f (kept.Promise file epoch) is fits = is
-boot_fits f (kept.Update file u) is fits = is
-boot_fits f (kept.Stage file object version bytes) is fits = is
-boot_fits f (kept.Head file head) is fits = is
-boot_fits f (kept.View file location) is fits = is
-boot_fits f (kept.Meta from number now nodes request) is fits = is
+boot_fits f _ is fits = is
 
 abbrev FoldFits : Folded → Type 0
 FoldFits f = FitsBoot f.boot × AllByRecursion HeldFits f.files
@@ -111,12 +118,18 @@ view_limits : (file : FileId) (o : Option Location) → FitsFile file → IfSome
 view_limits file None which is = tt
 view_limits file (Some l) which is = ((which, is), tt)
 
+close_limits : (file : FileId) (o : Option ℕ) → FitsFile file → IfSome o IsVersion → AllByRecursion FitsRecord (close_of file o)
+close_limits file None which is = tt
+close_limits file (Some version) which is = ((which, is), tt)
+
 row_limits : (body : FileId → ℕ → Stamp → List ℕ) → ((file : FileId) → AreBodies (body file)) → (row : FileRow) → RowIs row → HeldFits row → AllByRecursion FitsRecord (records_of_row body row)
-row_limits body bodies row is held =
-    all_append FitsRecord (view_of row.file row.location ++ map (stage_of body row.file) row.held) (kept.Head row.file row.head ∷ [])
-    (all_append FitsRecord (view_of row.file row.location) (map (stage_of body row.file) row.held) (view_limits row.file row.location is.which is.place)
+row_limits body bodies row is fits =
+    let lists = view_of row.file row.location ++ close_of row.file row.closed in
+    all_append FitsRecord (lists ++ map (stage_of body row.file) row.held) (kept.Head row.file row.head ∷ [])
+    (all_append FitsRecord lists (map (stage_of body row.file) row.held)
+    (all_append FitsRecord (view_of row.file row.location) (close_of row.file row.closed) (view_limits row.file row.location is.which is.place) (close_limits row.file row.closed is.which fits.closed))
     (all_map FitsRecord (stage_of body row.file) row.held
-    (all_weaker FitsVersion (λ (v : ObjectVersion). FitsRecord (stage_of body row.file v)) row.held (λ v fits. (is.which, fits.which, fits.write, bodies row.file v.object v.version)) held)))
+    (all_weaker FitsVersion (λ (v : ObjectVersion). FitsRecord (stage_of body row.file v)) row.held (λ v fits. (is.which, fits.which, fits.write, bodies row.file v.object v.version)) fits.held)))
     ((is.which, is.stands), tt)
 
 rows_limits : (body : FileId → ℕ → Stamp → List ℕ) → ((file : FileId) → AreBodies (body file)) → (keep : List KeepBody) (rows : List FileRow) → AllByRecursion RowIs rows → AllByRecursion HeldFits rows
@@ -124,7 +137,7 @@ rows_limits : (body : FileId → ℕ → Stamp → List ℕ) → ((file : FileId
 rows_limits body bodies keep [] are held = tt
 rows_limits body bodies keep (r ∷ rs) are held =
     all_append FitsRecord (records_of_row body (row_without keep r)) (records_of_rows body (map (row_without keep) rs))
-    (row_limits body bodies (row_without keep r) (record { which = are.0.which; stands = are.0.stands; place = are.0.place }) (all_filter FitsVersion (is_kept keep r.file) r.held held.0))
+    (row_limits body bodies (row_without keep r) (record { which = are.0.which; stands = are.0.stands; place = are.0.place }) (record { held = all_filter FitsVersion (is_kept keep r.file) r.held held.0.held; closed = held.0.closed }))
     (rows_limits body bodies keep rs are.1 held.1)
 
 limits_then : (keep : List KeepBody) (records : List Record) → KeptIs records → AllByRecursion FitsRecord (rewritten keep records)
@@ -132,7 +145,9 @@ unfolding rewritten logged_of
 limits_then keep records is =
     let fits = folds_fit records is.limits in (
       fits.0,
-      all_append FitsRecord (filter is_logged records) (records_of_rows (body_by records) (map (row_without keep) (fold_of records).files)) (all_filter FitsRecord is_logged records is.limits)
+      all_append FitsRecord (map widened (filter is_logged records)) (records_of_rows (body_by records) (map (row_without keep) (fold_of records).files))
+          (all_map FitsRecord widened (filter is_logged records)
+          (all_weaker FitsRecord (λ (rec : Record). FitsRecord (widened rec)) (filter is_logged records) widened_fits (all_filter FitsRecord is_logged records is.limits)))
           (rows_limits (body_by records) (λ file. bodies_are records file is.limits) keep (fold_of records).files is.rows fits.1),
     )
 

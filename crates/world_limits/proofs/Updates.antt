@@ -69,10 +69,7 @@ div_le size stripe some below = div_below size stripe (2 ^ 64) (omega arith) (at
 
 far_is : (objects stripe : ℕ) (asked : Op) → 1 ≤ stripe → FitsOp asked → IfSome (too_far objects stripe asked) (λ object. object < 2 ^ 64)
 far_is objects stripe (op.Read object at len) some fits = tt
-far_is objects stripe (op.Write object at bytes) some fits = either (λ o. IfSome o (λ n. n < 2 ^ 64)) (nat_lt object objects) None (Some object) tt (small object fits.0)
-  where
-    small : (n : ℕ) → n < 2 ^ 32 → n < 2 ^ 64
-    small n below = omega arith
+far_is objects stripe (op.Write object at bytes) some fits = either (λ o. IfSome o (λ n. n < 2 ^ 64)) (nat_lt object objects) None (Some object) tt fits.0
 far_is objects stripe (op.Truncate size) some fits = either (λ o. IfSome o (λ n. n < 2 ^ 64)) (nat_lt (objects * stripe) size) (Some (size / stripe)) None (div_le size stripe some fits) tt
 
 session_is : (sessions : List Session) (client : ℕ) → AllByRecursion FitsSession sessions → IfSome (session_of sessions client) FitsSession
@@ -106,10 +103,10 @@ module _ (objects stripe : ℕ) (head : FileHead) (epoch : ℕ) (asked : Op) (so
 -- ---- updates
 
 -- the size after a write is small
-size_is : (size object stripe at len : ℕ) → size < 2 ^ 64 → object < 36864 → stripe ≤ 131072 → at < 2 ^ 32 → len ≤ 131072 → max size (object * stripe + at + len) < 2 ^ 64
+size_is : (size object stripe at len : ℕ) → size < 2 ^ 64 → object < 147456 → stripe ≤ 131072 → at < 2 ^ 32 → len ≤ 131072 → max size (object * stripe + at + len) < 2 ^ 64
 size_is size object stripe at len old few short place more =
-    let low : object ≤ 36864 = omega arith in
-    let product : object * stripe ≤ 36864 * 131072 = mul-le-mul low short in
+    let low : object ≤ 147456 = omega arith in
+    let product : object * stripe ≤ 147456 * 131072 = mul-le-mul low short in
     omega (arith, product)
 
 near_object : (objects object : ℕ) → (if nat_lt object objects then None else Some object) ≡ None → object < objects
@@ -129,12 +126,12 @@ near_size objects stripe size near = at (objects * stripe) (nat_lt (objects * st
 not_empty : (bytes : List ℕ) → 1 ≤ length bytes → (length bytes == 0) ≡ false
 not_empty bytes some = grind (arith, nat_tests)
 
-real_object : (object : ℕ) → object ≤ 36864 → (object == NO_OBJECT) ≡ false
+real_object : (object : ℕ) → object ≤ 147456 → (object == NO_OBJECT) ≡ false
 real_object object small = grind (arith, nat_tests)
 
 -- what an update is made from; a striped file has as many objects as its members have, at most nine
 pub record MakesUpdate (objects stripe : ℕ) (body : ℕ → Stamp → List ℕ) (head : FileHead) (stamp : Stamp) (id : OpId) (epoch : ℕ) (asked : Op) : Type 0 where
-  pub few : objects ≤ 36864
+  pub few : objects ≤ 147456
   pub least : 1 ≤ stripe
   pub most : stripe ≤ 131072
   pub bodies : AreBodies body
@@ -157,7 +154,7 @@ written_is objects stripe body head stamp id epoch object at bytes is =
     let least : 1 ≤ length bytes = is.limits.3 in
     let most : length bytes ≤ length (overlay old at bytes) = size.0 in
     let near : object < objects = near_object objects object is.near in
-    let below : object < 36864 = (let few : objects ≤ 36864 = is.few in omega (arith, near, few)) in
+    let below : object < 147456 = (let few : objects ≤ 147456 = is.few in omega (arith, near, few)) in
     record {
       place = is.place;
       operation = is.who;
@@ -169,14 +166,14 @@ written_is objects stripe body head stamp id epoch object at bytes is =
     }
 
 -- the objects of a file that isn't too large
-div_few : (objects size stripe : ℕ) → 1 ≤ stripe → objects ≤ 36864 → size ≤ objects * stripe → size / stripe ≤ 36864
+div_few : (objects size stripe : ℕ) → 1 ≤ stripe → objects ≤ 147456 → size ≤ objects * stripe → size / stripe ≤ 147456
 div_few objects size stripe some few low =
-    let product : objects * stripe ≤ 36864 * stripe = mul-le-mul few (omega arith) in
-    let below : size / stripe < 36865 = div_below size stripe 36865 (omega arith) (omega (arith, low, product)) in
+    let product : objects * stripe ≤ 147456 * stripe = mul-le-mul few (omega arith) in
+    let below : size / stripe < 147457 = div_below size stripe 147457 (omega arith) (omega (arith, low, product)) in
     omega arith
 
-objects_few : (size stripe : ℕ) → size / stripe ≤ 36864 → objects_of stripe size < 2 ^ 32 - 1
-objects_few size stripe few = either (λ n. n < 2 ^ 32 - 1) (size % stripe == 0) (size / stripe) (size / stripe + 1) (omega arith) (omega arith)
+objects_few : (size stripe : ℕ) → size / stripe ≤ 147456 → objects_of stripe size < 2 ^ 64 - 1
+objects_few size stripe few = either (λ n. n < 2 ^ 64 - 1) (size % stripe == 0) (size / stripe) (size / stripe + 1) (omega arith) (omega arith)
 
 taken_some : (n : ℕ) (old : List ℕ) → (nat_lt 0 n && nat_lt n (length old)) ≡ true → 1 ≤ length (take n old)
 taken_some n old cuts =
@@ -188,7 +185,7 @@ taken_some n old cuts =
     over : (a b : ℕ) → nat_lt a b ≡ true → a + 1 ≤ b
     over a b less = grind (arith, nat_tests)
 
-cut_empty : (cut : Bool) (taken : List ℕ) (last : ℕ) → (cut ≡ true → 1 ≤ length taken) → last ≤ 36864
+cut_empty : (cut : Bool) (taken : List ℕ) (last : ℕ) → (cut ≡ true → 1 ≤ length taken) → last ≤ 147456
     → (length (if cut then taken else []) == 0) ≡ ((if cut then last else NO_OBJECT) == NO_OBJECT)
 cut_empty true taken last some few = not_empty taken (some refl) ∙ sym (real_object last few)
 cut_empty false taken last some few = refl
@@ -200,7 +197,7 @@ truncated_is objects stripe body head stamp id epoch size is =
     let old = present_body body (version_of head.versions last) last in
     let held : FitsBytes old = present_is body (version_of head.versions last) last is.bodies in
     let cut = cuts_body stripe size old in
-    let few : last ≤ 36864 = div_few objects size stripe is.least is.few (near_size objects stripe size is.near) in
+    let few : last ≤ 147456 = div_few objects size stripe is.least is.few (near_size objects stripe size is.near) in
     let part : FitsBytes (take (size % stripe) old) = taken_is (size % stripe) old held in
     record {
       place = is.place;

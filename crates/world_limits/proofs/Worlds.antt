@@ -127,13 +127,7 @@ none_placed marks none = subst (AllByRecursion FitsPlaced) (sym none) tt
 shown_placed : (marks : List Mark) → AllByRecursion servers.FitsShown marks → AllByRecursion FitsPlaced (files_marked marks)
 shown_placed [] fits = tt
 shown_placed (mark.File file location ∷ marks) fits = (record { which = fits.0.1; place = fits.0.2 }, shown_placed marks fits.1)
-shown_placed (mark.Begin number c ∷ marks) fits = absurd fits.0
-shown_placed (mark.Held file end ∷ marks) fits = absurd fits.0
-shown_placed (mark.Active file count id ∷ marks) fits = absurd fits.0
-shown_placed (mark.Issue file count id ∷ marks) fits = absurd fits.0
-shown_placed (mark.Commit file count id ∷ marks) fits = absurd fits.0
-shown_placed (mark.Answer file id count bytes ∷ marks) fits = absurd fits.0
-shown_placed (mark.Done number how ∷ marks) fits = absurd fits.0
+shown_placed (_ ∷ marks) fits = absurd fits.0
 
 client_turn : (node : Node) (step : Step WholeClient) → client_limits.FitsStep step → files_marked step.turned.marks ≡ [] → TurnIs node (client step.state) step.turned
 client_turn node step fits none = record {

@@ -147,7 +147,11 @@ pub record FileIs (s : FileState) : Type 0 where
 abbrev pub PlacedOn : FileRow → Record → Type 0
 PlacedOn row (kept.Promise file epoch) = is_at_most row.head.promised epoch ≡ true
 PlacedOn row (kept.Update file update) = FollowsHead row.head update
+PlacedOn row (kept.OldUpdate file update) = FollowsHead row.head update
 PlacedOn row (kept.Head file head) = All (Contains row.held) head.versions
+PlacedOn row (kept.OldHead file head) = All (Contains row.held) head.versions
+PlacedOn row (kept.Install file location head) = All (Contains row.held) head.versions
+PlacedOn row (kept.OldInstall file location head) = All (Contains row.held) head.versions
 PlacedOn row _ = Unit {0}
 
 pub record RecordIs (row : FileRow) (rec : Record) : Type 0 where

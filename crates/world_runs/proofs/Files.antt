@@ -17,8 +17,9 @@ use Rattle.xt_messages.specs.declared.record.Record.TheVariants as kept
 use Rattle.xt_messages.specs.declared.record.FileRow.{FileRow}
 use Rattle.xt_messages.specs.declared.record.Folded.{Folded}
 use Rattle.xt_protocol.specs.FileIds.{is_file}
-use Rattle.xt_protocol.specs.Folds.{fold_of, folded_after, row_in, row_after, rows_after, new_row, file_of}
-use Rattle.xt_protocol.proofs.Folds.{file-equal, row_in-with_row, fold_of-push, fold_of-nothing, row_in-file, row_after-file}
+use Rattle.xt_protocol.specs.Folds.{fold_of, row_in, with_row, without_row, row_after, rows_after, new_row, file_of, forgets}
+use Rattle.xt_protocol.proofs.Folds.{file-equal, row_in-rows_after, fold_of-push, fold_of-nothing, row_in-file, row_after-file}
+use Rattle.xt_protocol.proofs.Sorts.{no_boot}
 use Rattle.xt_protocol.specs.LeaseRows.{Silent, Awake, LeaseState, free, asking, writing, held, lease_expired, on_answer}
 use Rattle.lease_safety.specs.State.{Has}
 use Rattle.lease_runs.specs.LeaseWorld.{LeaseSetting, LeaseRow, row_handles}
@@ -41,7 +42,7 @@ use Rattle.xt_protocol.specs.OsdSteps.{with_file}
 use Rattle.world_spec.specs.NodeSteps.{one_more}
 use Rattle.world_runs.specs.View.{awake_as}
 use Rattle.lease_runs.proofs.OsdLeases.{file_at-with_file, at_file}
-use Rattle.world_runs.proofs.Rising.{with_row_has, with_row_rises}
+use Rattle.world_runs.proofs.Rising.{with_row_has, without_row_has, rows_after_rise}
 use Rattle.world_runs.proofs.Tables.{AllStay}
 use Rattle.world_runs.specs.Worlds.{Agrees, Rises, files_of, row_files, IsKnown, Listed, WantFits, AnswerFits, PayloadFits, FileFits, RowsFit, OsdFits}
 
@@ -50,6 +51,8 @@ use Rattle.world_runs.specs.Worlds.{Agrees, Rises, files_of, row_files, IsKnown,
 -- a record that stores a list stores that of a known file
 abbrev pub RecordFits : List PlacedFile → Record → Type 0
 RecordFits files (kept.View file location) = IsKnown files file location
+RecordFits files (kept.Install file location head) = IsKnown files file location
+RecordFits files (kept.OldInstall file location head) = IsKnown files file location
 RecordFits files _ = Unit {0}
 
 -- ---- records
@@ -67,27 +70,37 @@ record_of files file content (kept.View f location) fits concerns is = viewed co
     viewed (payload.Promise file ballot boot report) fits concerns is = absurd is.1
     viewed (payload.Write file ballot boot lease) fits concerns is = absurd is.1
     viewed _ fits concerns is = absurd is.1
+record_of files file content (kept.Install f location head) fits concerns is = absurd is
+record_of files file content (kept.OldInstall f location head) fits concerns is = absurd is
 record_of files file content _ fits concerns is = tt
+
+-- a record of a step is of the step's file
+of_step : (file : FileId) (content : Payload) (rec : Record) → RecordIs file content (Some rec) → file_of rec ≡ Some file
+of_step file content (kept.Promise f epoch) is = ap (λ f. Some f) is
+of_step file content (kept.Update f update) is = ap (λ f. Some f) is
+of_step file content (kept.Stage f object version bytes) is = ap (λ f. Some f) is
+of_step file content (kept.Head f head) is = ap (λ f. Some f) is
+of_step file content (kept.View f location) is = ap (λ f. Some f) is.0
+of_step file content _ is = absurd is
+
+known_as : (files : List PlacedFile) (row : FileRow) (file : FileId) (location : Location) → IsKnown files file location → Some file ≡ Some row.file → IsKnown files row.file location
+known_as files row file location known is = (let same : file ≡ row.file = cc in subst (λ (f : FileId). IsKnown files f location) same known)
 
 listed_after : (files : List PlacedFile) (row : FileRow) (rec : Record) → RecordFits files rec → file_of rec ≡ Some row.file → Listed files row.file row.location
     → Listed files (row_after row rec).file (row_after row rec).location
-listed_after files row (kept.Promise file epoch) fits is listed = listed
-listed_after files row (kept.Update file update) fits is listed = listed
-listed_after files row (kept.Stage file object version bytes) fits is listed = listed
-listed_after files row (kept.Head file head) fits is listed = listed
-listed_after files row (kept.View file location) fits is listed = (let same : file ≡ row.file = cc in subst (λ (f : FileId). IsKnown files f location) same fits)
-listed_after files row (kept.Boot boot) fits is listed = listed
-listed_after files row (kept.Meta from number now nodes request) fits is listed = listed
+listed_after files row (kept.View file location) fits is listed = known_as files row file location fits is
+listed_after files row (kept.Install file location head) fits is listed = known_as files row file location fits is
+listed_after files row (kept.OldInstall file location head) fits is listed = known_as files row file location fits is
+listed_after files row (kept.Forget file) fits is listed = tt
+listed_after files row _ fits is listed = listed
 
-stored_after : (row : FileRow) (rec : Option Record) → IsStored row.location → IsStored (kept_after row rec).location
-stored_after row None stored = stored
-stored_after row (Some (kept.Promise file epoch)) stored = stored
-stored_after row (Some (kept.Update file update)) stored = stored
-stored_after row (Some (kept.Stage file object version bytes)) stored = stored
-stored_after row (Some (kept.Head file head)) stored = stored
-stored_after row (Some (kept.View file location)) stored = tt
-stored_after row (Some (kept.Boot boot)) stored = stored
-stored_after row (Some (kept.Meta from number now nodes request)) stored = stored
+stored_after : (row : FileRow) (content : Payload) (rec : Option Record) → RecordIs row.file content rec → IsStored row.location → IsStored (kept_after row rec).location
+stored_after row content None is stored = stored
+stored_after row content (Some (kept.View file location)) is stored = tt
+stored_after row content (Some (kept.Install file location head)) is stored = tt
+stored_after row content (Some (kept.OldInstall file location head)) is stored = tt
+stored_after row content (Some (kept.Forget file)) is stored = absurd is
+stored_after row content (Some _) is stored = stored
 
 pub file_after : (row : FileRow) (rec : Option Record) → (kept_after row rec).file ≡ row.file
 file_after row None = refl
@@ -97,14 +110,8 @@ file_after row (Some rec) = row_after-file row rec
 kept_listed : (files : List PlacedFile) (row : FileRow) (content : Payload) (rec : Option Record) → PayloadFits files content → (is_ask content ≡ true → file_concerned content ≡ Some row.file)
     → RecordIs row.file content rec → Listed files row.file row.location → Listed files (kept_after row rec).file (kept_after row rec).location
 kept_listed files row content None fits concerns is listed = listed
-kept_listed files row content (Some (kept.Promise file epoch)) fits concerns is listed = listed
-kept_listed files row content (Some (kept.Update file update)) fits concerns is listed = listed
-kept_listed files row content (Some (kept.Stage file object version bytes)) fits concerns is listed = listed
-kept_listed files row content (Some (kept.Head file head)) fits concerns is listed = listed
-kept_listed files row content (Some (kept.View file location)) fits concerns is listed =
-    listed_after files row (kept.View file location) (record_of files row.file content (kept.View file location) fits concerns is) (ap (λ f. Some f) is.0) listed
-kept_listed files row content (Some (kept.Boot boot)) fits concerns is listed = absurd is
-kept_listed files row content (Some (kept.Meta from number now nodes request)) fits concerns is listed = absurd is
+kept_listed files row content (Some rec) fits concerns is listed =
+    listed_after files row rec (record_of files row.file content rec fits concerns is) (of_step row.file content rec is) listed
 
 -- the record of a step is of no start, and stores the list of a known file
 pub step_record : (files : List PlacedFile) (site : Site) (s : FileState) (from : NodeId) (content : Payload) (rec : Record) → PayloadFits files content → (is_ask content ≡ true → file_concerned content ≡ Some s.kept.file)
@@ -112,19 +119,10 @@ pub step_record : (files : List PlacedFile) (site : Site) (s : FileState) (from 
 step_record files site s from content rec fits concerns is =
     record_of files s.kept.file content rec fits concerns (subst (RecordIs s.kept.file content) is (step_rec site s from content))
 
-no_boot : (file : FileId) (content : Payload) (rec : Record) (boot : ℕ) (rows : List FileRow) → RecordIs file content (Some rec) → (folded_after (record { boot = record { 0 = boot }; files = rows }) rec).boot.0 ≡ boot
-no_boot file content (kept.Promise f epoch) boot rows is = refl
-no_boot file content (kept.Update f update) boot rows is = refl
-no_boot file content (kept.Stage f object version bytes) boot rows is = refl
-no_boot file content (kept.Head f head) boot rows is = refl
-no_boot file content (kept.View f location) boot rows is = refl
-no_boot file content (kept.Boot b) boot rows is = absurd is
-no_boot file content (kept.Meta from number now nodes request) boot rows is = absurd is
-
 pub same_boot : (file : FileId) (content : Payload) (rec : Record) (records : List Record) → RecordIs file content (Some rec) → (fold_of (records ++ rec ∷ [])).boot ≡ (fold_of records).boot
 same_boot file content rec records is =
     ap (λ (f : Folded). f.boot) (fold_of-push records rec)
-    ∙ ap (λ (n : ℕ). let b : Boot = record { 0 = n } in b) (no_boot file content rec (fold_of records).boot.0 (fold_of records).files is)
+    ∙ ap (λ (n : ℕ). let b : Boot = record { 0 = n } in b) (no_boot (fold_of records).boot.0 rec file (of_step file content rec is))
 
 -- ---- steps of a file
 
@@ -170,7 +168,7 @@ step_fits files site s from content ask concerns fits =
     step = step_of_file site s from content
 
     still : IsBusy s.lease → IsStored step.state.kept.location
-    still busy = subst (λ (row : FileRow). IsStored row.location) (sym (step_follows site s from content)) (stored_after s.kept step.turned.rec (fits.stored busy))
+    still busy = subst (λ (row : FileRow). IsStored row.location) (sym (step_follows site s from content)) (stored_after s.kept content step.turned.rec (step_rec site s from content) (fits.stored busy))
 
     is_stored : Follows s.kept.file site (settled_row site s) (settled_row site s).lease from content (step_of_file site s from content) → IsBusy step.state.lease → IsStored step.state.kept.location
     is_stored (handles p) busy =
@@ -221,16 +219,16 @@ row_listed files (r ∷ rs) file each = one_of (is_file r.file file) (row_listed
 
 rows_fit : (files : List PlacedFile) (rows : List FileRow) (rec : Record) (o : Option FileId) → file_of rec ≡ o → RecordFits files rec → RowsFit files rows → RowsFit files (rows_after rows rec o)
 rows_fit files rows rec None is fits q = q
-rows_fit files rows rec (Some file) is fits q =
-    let row = row_after (row_in rows file) rec in
-    record {
-      listed = λ r h. elim (with_row_has rows row r h) [
-        | inl e ↦ subst (λ (r : FileRow). Listed files r.file r.location) (sym e)
-            (listed_after files (row_in rows file) rec fits (is ∙ ap (λ f. Some f) (sym (row_in-file rows file))) (row_listed files rows file q.listed))
-        | inr old ↦ q.listed r old
-      ];
-      rises = with_row_rises rows row q.rises;
-    }
+rows_fit files rows rec (Some file) is fits q = record { listed = at (forgets rec); rises = rows_after_rise rows rec (Some file) q.rises }
+  where
+    at : (gone : Bool) (r : FileRow) → Has r (cond gone (without_row rows file) (with_row rows (row_after (row_in rows file) rec))) → Listed files r.file r.location
+    at true r h = q.listed r (without_row_has rows file r h)
+    at false r h =
+        elim (with_row_has rows (row_after (row_in rows file) rec) r h) [
+          | inl e ↦ subst (λ (r : FileRow). Listed files r.file r.location) (sym e)
+              (listed_after files (row_in rows file) rec fits (is ∙ ap (λ f. Some f) (sym (row_in-file rows file))) (row_listed files rows file q.listed))
+          | inr old ↦ q.listed r old
+        ]
 
 pub record_fits : (files : List PlacedFile) (records : List Record) (rec : Record) → RecordFits files rec → RowsFit files (fold_of records).files → RowsFit files (fold_of (records ++ rec ∷ [])).files
 record_fits files records rec fits q =
@@ -259,16 +257,6 @@ starting_fits times files node boot clock rows q =
 
 -- ---- what is kept
 
--- a record of a step is of the step's file
-of_step : (file : FileId) (content : Payload) (rec : Record) → RecordIs file content (Some rec) → file_of rec ≡ Some file
-of_step file content (kept.Promise f epoch) is = ap (λ f. Some f) is
-of_step file content (kept.Update f update) is = ap (λ f. Some f) is
-of_step file content (kept.Stage f object version bytes) is = ap (λ f. Some f) is
-of_step file content (kept.Head f head) is = ap (λ f. Some f) is
-of_step file content (kept.View f location) is = ap (λ f. Some f) is.0
-of_step file content (kept.Boot boot) is = absurd is
-of_step file content (kept.Meta from number now nodes request) is = absurd is
-
 -- the row of any file after the record of a step of this one
 row_then : (records : List Record) (file other : FileId) (content : Payload) (rec : Option Record) → RecordIs file content rec
     → row_in (fold_of (one_more records rec)).files other ≡ cond (is_file file other) (kept_after (row_in (fold_of records).files file) rec) (row_in (fold_of records).files other)
@@ -279,11 +267,8 @@ row_then records file other content None is = at (is_file file other) refl
     at false differ = refl
 row_then records file other content (Some rec) is =
     let rows = (fold_of records).files in
-    let row = row_after (row_in rows file) rec in
     ap (λ (f : Folded). row_in f.files other) (fold_of-push records rec)
-    ∙ (ap (λ (o : Option FileId). row_in (rows_after rows rec o) other) (of_step file content rec is)
-    ∙ (row_in-with_row rows row other
-    ∙ ap (λ (f : FileId). cond (is_file f other) row (row_in rows other)) (row_after-file (row_in rows file) rec ∙ row_in-file rows file)))
+    ∙ (ap (λ (o : Option FileId). row_in (rows_after rows rec o) other) (of_step file content rec is) ∙ row_in-rows_after rows rec file other)
 
 -- a step of one file keeps what memory and records have in common
 pub step_agrees : (records : List Record) (s : OsdState) (file : FileId) (content : Payload) (after : FileState) (rec : Option Record) → Agrees records s → RecordIs file content rec

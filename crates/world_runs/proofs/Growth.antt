@@ -94,14 +94,11 @@ entries-none before e there = absurd (nothing before e there.0 there.1)
 
 -- marks of an OSD: they end no call, and what they name has begun
 mark_is : (es more : List Entry) (file : ℕ) (node : NodeId) (m : Mark) → EndsNone m → IsMarked (λ (id : OpId). HasBegunOn file es id) file m → EntryIs (es ++ more) (entry_of node m)
-mark_is es more file node (mark.Active k count write) none is = tt
 mark_is es more file node (mark.Issue k count write) none is = begun_on-grown k es more write (subst (λ (f : ℕ). HasBegunOn f es write) (sym is.0) is.1)
 mark_is es more file node (mark.Commit k count write) none is = begun_on-grown k es more write (subst (λ (f : ℕ). HasBegunOn f es write) (sym is.0) is.1)
 mark_is es more file node (mark.Answer k write count bytes) none is = begun_on-grown k es more write (subst (λ (f : ℕ). HasBegunOn f es write) (sym is.0) is.1)
-mark_is es more file node (mark.Begin k c) none is = tt
 mark_is es more file node (mark.Done k how) none is = absurd none
-mark_is es more file node (mark.File k location) none is = tt
-mark_is es more file node (mark.Held k end) none is = tt
+mark_is es more file node _ none is = tt
 
 marks_are : (file : ℕ) (node : NodeId) (es more : List Entry) (ms : List Mark) → EntriesAre (es ++ more) → NoneEnds ms → AreMarked (λ (id : OpId). HasBegunOn file es id) file ms
     → EntriesAre ((es ++ more) ++ map (entry_of node) ms)
@@ -126,13 +123,7 @@ files_are node es more (mark.File file location ∷ ms) are of_files =
     subst EntriesAre (append_assoc (es ++ more) (e ∷ []) (map (entry_of node) ms))
     (subst (λ (xs : List Entry). EntriesAre (xs ++ map (entry_of node) ms)) (sym (append_assoc es more (e ∷ [])))
     (files_are node es (more ++ e ∷ []) ms (subst EntriesAre (append_assoc es more (e ∷ [])) here) of_files.1))
-files_are node es more (mark.Begin number c ∷ ms) are of_files = absurd of_files.0
-files_are node es more (mark.Done number how ∷ ms) are of_files = absurd of_files.0
-files_are node es more (mark.Held file end ∷ ms) are of_files = absurd of_files.0
-files_are node es more (mark.Active file count id ∷ ms) are of_files = absurd of_files.0
-files_are node es more (mark.Issue file count id ∷ ms) are of_files = absurd of_files.0
-files_are node es more (mark.Commit file count id ∷ ms) are of_files = absurd of_files.0
-files_are node es more (mark.Answer file id count bytes ∷ ms) are of_files = absurd of_files.0
+files_are node es more (_ ∷ ms) are of_files = absurd of_files.0
 
 pub entries-files : (node : NodeId) (es : List Entry) (ms : List Mark) → EntriesAre es → AreFileMarks ms → EntriesAre (es ++ map (entry_of node) ms)
 entries-files node es ms are of_files =
@@ -170,14 +161,8 @@ not_begun : (node other : NodeId) (k number : ℕ) (c : Call) → node.0 ≢ oth
 not_begun node other k number c ne = grind (arith, nat_tests)
 
 mark_begins : (node other : NodeId) (k : ℕ) (m : Mark) → node.0 ≢ other.0 → call_begun (id_of node k) (entry_of other m) ≡ None
-mark_begins node other k (mark.Active f count write) ne = refl
-mark_begins node other k (mark.Issue f count write) ne = refl
-mark_begins node other k (mark.Commit f count write) ne = refl
-mark_begins node other k (mark.Answer f write count bytes) ne = refl
 mark_begins node other k (mark.Begin number c) ne = not_begun node other k number c ne
-mark_begins node other k (mark.Done number how) ne = refl
-mark_begins node other k (mark.File f location) ne = refl
-mark_begins node other k (mark.Held f end) ne = refl
+mark_begins node other k _ ne = refl
 
 pub quiet-marks : (node other : NodeId) (ms : List Mark) → node.0 ≢ other.0 → Quiet (map (entry_of other) ms) node
 unfolding begun
@@ -264,10 +249,7 @@ reply-grown es more to number reply.ClientsFull is = tt
 
 answer-granted : (es more : List Entry) (told : MetaAnswer) → AnswerGrants (HeldIs es) told → AnswerGrants (HeldIs (es ++ more)) told
 answer-granted es more (answer.Granted capability size) is = (is.0, location-grown capability.file.number es more capability.location is.1)
-answer-granted es more answer.Done is = tt
-answer-granted es more (answer.Refused why) is = tt
-answer-granted es more (answer.Names names) is = tt
-answer-granted es more (answer.Row how owner group mode size) is = tt
+answer-granted es more _ is = tt
 
 pub content-grown : (es more : List Entry) (from to : NodeId) (content : Payload) → ContentIs es from to content → ContentIs (es ++ more) from to content
 content-grown es more from to (payload.MetaReply number told) is = answer-granted es more told is
@@ -417,13 +399,4 @@ acts_begun es file are before e id there acts = at e (are before e there) acts
     at (entry.Issue node f count write) is acts = same (f == file) f write refl is acts
     at (entry.Commit node f count write) is acts = same (f == file) f write refl is acts
     at (entry.Answer node f write count bytes) is acts = same (f == file) f write refl is acts
-    at (entry.Times lease drift) is acts = absurd cc
-    at (entry.File number location) is acts = absurd cc
-    at (entry.Clock node clock) is acts = absurd cc
-    at (entry.Tick count) is acts = absurd cc
-    at (entry.Up node boot clock) is acts = absurd cc
-    at (entry.Down node clock how) is acts = absurd cc
-    at (entry.Begin caller number c) is acts = absurd cc
-    at (entry.Held node f end) is acts = absurd cc
-    at (entry.Active node f count write) is acts = absurd cc
-    at (entry.Done caller number how) is acts = absurd cc
+    at _ is acts = absurd cc

@@ -52,8 +52,8 @@ use Rattle.volume_rows.specs.Paths.{Path, path_in}
 use Rattle.volume_rows.specs.Rows.{Volumes}
 use Rattle.volume_rows.specs.Grants.{file_at, volume_id}
 use Rattle.server_rows.specs.declared.MadeFile.{MadeFile}
-use Rattle.server_rows.specs.Requests.{outcome_of, place_of, placed, nodes_in, new_file, noted, ended, ends_at, is_done, made_by, made_after, file_wanted, marks_on, marks_of, is_recorded, is_spent, nodes_for}
-use Rattle.server_rows.specs.Metadata.{Catalogue, MrcState, MrcStep, after_request, after_meta, after_record, catalogue_of, nothing, answered, recorded, fresh, by_standing, rows_heard, nodes_of, is_dir, told_by, handled, step_of_mrc}
+use Rattle.server_rows.specs.Requests.{outcome_of, place_of, placed, nodes_in, new_file, noted, ended, ends_at, is_done, made_by, made_after, file_wanted, marks_on, marks_of, is_recorded, is_taken, is_spent, nodes_for}
+use Rattle.server_rows.specs.Metadata.{Catalogue, MrcState, MrcStep, after_request, after_meta, after_record, catalogue_of, nothing, answered, recorded, fresh, by_standing, requested, rows_heard, nodes_of, is_dir, told_by, handled, step_of_mrc}
 use Rattle.server_rows.specs.Directory as directory
 use Rattle.server_rows.specs.Directory.{DirState, dir_of, step_of_dir}
 use Rattle.server_rows.specs.Naming.{Made, IsMadeAs, RisesTo, Holds, NamesMade, GrantsMade, GrantMade}
@@ -126,14 +126,7 @@ request_adds : (es : Made) (volumes : Volumes) (now : ℕ) (nodes : Option (List
     → Adds es (made_by volumes now nodes request es) (files_marked (marks_on (file_wanted volumes.next request) (place_of nodes request)))
 request_adds es volumes now nodes (ask.Create path mode kind n stripe) rises = noted_adds es volumes.next (path_in path) (placed kind n stripe (nodes_in nodes)) rises
 request_adds es volumes now nodes (ask.Unlink path) rises = ended_adds es now (file_at volumes (path_in path))
-request_adds es volumes now nodes (ask.Mkdir path mode) rises = adds_none es
-request_adds es volumes now nodes (ask.Rename from to) rises = adds_none es
-request_adds es volumes now nodes (ask.Rmdir path) rises = adds_none es
-request_adds es volumes now nodes (ask.List path after) rises = adds_none es
-request_adds es volumes now nodes (ask.Stat path) rises = adds_none es
-request_adds es volumes now nodes (ask.Chmod path mode) rises = adds_none es
-request_adds es volumes now nodes (ask.Grant path want) rises = adds_none es
-request_adds es volumes now nodes (ask.Report capability size) rises = adds_none es
+request_adds es volumes now nodes _ rises = adds_none es
 
 after_adds : (es : Made) (volumes : Volumes) (now : ℕ) (nodes : Option (List NodeId)) (request : MetaReq) (told : MetaAnswer) → RisesTo 1000000 volumes.next es
     → Adds es (made_after volumes now nodes request told es) (files_marked (marks_of volumes.next nodes request told))
@@ -199,6 +192,13 @@ module _ (key : List ℕ) where
   stands_adds mrc client number who request (standing.Again what) holds = adds_none mrc.catalogue.made
   stands_adds mrc client number who request standing.Older holds = adds_none mrc.catalogue.made
 
+  asked_adds : (mrc : MrcState) (client : NodeId) (number : ℕ) (who : Asker) (request : MetaReq) → Holds mrc.catalogue → StepAdds mrc (requested key mrc client number who request)
+  asked_adds mrc client number who request holds = at (is_taken request)
+    where
+      at : (taken : Bool) → StepAdds mrc (cond taken (by_standing key mrc client number who request (standing_of mrc.catalogue.clients client number)) (nothing mrc))
+      at true = stands_adds mrc client number who request (standing_of mrc.catalogue.clients client number) holds
+      at false = adds_none mrc.catalogue.made
+
   heard_adds : (mrc : MrcState) (from : NodeId) (rs : List RegistryRow) → StepAdds mrc (rows_heard mrc from rs)
   heard_adds mrc from rs = at (is_dir from)
     where
@@ -211,8 +211,7 @@ module _ (key : List ℕ) where
   listed_adds mrc from number _ = adds_none mrc.catalogue.made
 
   told_adds : (mrc : MrcState) (from : NodeId) (content : Payload) → Holds mrc.catalogue → StepAdds mrc (told_by key mrc from content)
-  told_adds mrc from (payload.Meta number user group request) holds =
-      stands_adds mrc from number (record { user = user; group = group }) request (standing_of mrc.catalogue.clients from number) holds
+  told_adds mrc from (payload.Meta number user group request) holds = asked_adds mrc from number (record { user = user; group = group }) request holds
   told_adds mrc from (payload.RegistryReply number what) holds = listed_adds mrc from number what
   told_adds mrc from _ holds = adds_none mrc.catalogue.made
 
@@ -440,10 +439,7 @@ made_known files next es file location are rises is =
 
 answer_known : (files : List PlacedFile) (next : ℕ) (es : Made) (what : MetaAnswer) → AreDeclared files → RisesTo 1000000 next es → NamesMade es what → AnswerFits (files ++ places es) what
 answer_known files next es (answer.Granted capability size) are rises is = made_known files next es capability.file capability.location are rises is
-answer_known files next es answer.Done are rises is = tt
-answer_known files next es (answer.Refused why) are rises is = tt
-answer_known files next es (answer.Names names) are rises is = tt
-answer_known files next es (answer.Row how owner group mode size) are rises is = tt
+answer_known files next es _ are rises is = tt
 
 payload_known : (files : List PlacedFile) (next : ℕ) (es : Made) (content : Payload) → AreDeclared files → RisesTo 1000000 next es → GrantsMade es content → PayloadFits (files ++ places es) content
 payload_known files next es (payload.MetaReply number told) are rises is = answer_known files next es told are rises is
@@ -479,13 +475,7 @@ AreFileMarks (m ∷ ms) = IsFileMark m × AreFileMarks ms
 pub files_inert : (ms : List Mark) → AreFileMarks ms → AreInert ms
 files_inert [] are = tt
 files_inert (mark.File file location ∷ ms) are = (tt, files_inert ms are.1)
-files_inert (mark.Begin number c ∷ ms) are = absurd are.0
-files_inert (mark.Done number how ∷ ms) are = absurd are.0
-files_inert (mark.Held file end ∷ ms) are = absurd are.0
-files_inert (mark.Active file count id ∷ ms) are = absurd are.0
-files_inert (mark.Issue file count id ∷ ms) are = absurd are.0
-files_inert (mark.Commit file count id ∷ ms) are = absurd are.0
-files_inert (mark.Answer file id count bytes ∷ ms) are = absurd are.0
+files_inert (_ ∷ ms) are = absurd are.0
 
 -- the record of a request
 abbrev pub IsMetaIfAny : Option Record → Type 0
@@ -549,6 +539,13 @@ module _ (key : List ℕ) where
   stands_serves mrc client number who request (standing.Again what) = serves_answer mrc client number what
   stands_serves mrc client number who request standing.Older = serves_none mrc
 
+  asked_serves : (mrc : MrcState) (client : NodeId) (number : ℕ) (who : Asker) (request : MetaReq) → Serves (requested key mrc client number who request).turned
+  asked_serves mrc client number who request = at (is_taken request)
+    where
+      at : (taken : Bool) → Serves (cond taken (by_standing key mrc client number who request (standing_of mrc.catalogue.clients client number)) (nothing mrc)).turned
+      at true = stands_serves mrc client number who request (standing_of mrc.catalogue.clients client number)
+      at false = serves_none mrc
+
   heard_serves : (mrc : MrcState) (from : NodeId) (rs : List RegistryRow) → Serves (rows_heard mrc from rs).turned
   heard_serves mrc from rs = at (is_dir from)
     where
@@ -561,7 +558,7 @@ module _ (key : List ℕ) where
   listed_serves mrc from number _ = serves_none mrc
 
   told_serves : (mrc : MrcState) (from : NodeId) (content : Payload) → Serves (told_by key mrc from content).turned
-  told_serves mrc from (payload.Meta number user group request) = stands_serves mrc from number (record { user = user; group = group }) request (standing_of mrc.catalogue.clients from number)
+  told_serves mrc from (payload.Meta number user group request) = asked_serves mrc from number (record { user = user; group = group }) request
   told_serves mrc from (payload.RegistryReply number what) = listed_serves mrc from number what
   told_serves mrc from _ = serves_none mrc
 

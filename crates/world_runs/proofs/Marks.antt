@@ -33,10 +33,7 @@ acts_no_ends number (mark.Active k count write ∷ ms) are = acts_no_ends number
 acts_no_ends number (mark.Issue k count write ∷ ms) are = acts_no_ends number ms are.1
 acts_no_ends number (mark.Commit k count write ∷ ms) are = acts_no_ends number ms are.1
 acts_no_ends number (mark.Answer k write count bytes ∷ ms) are = acts_no_ends number ms are.1
-acts_no_ends number (mark.Begin k c ∷ ms) are = absurd (cc (are.0))
-acts_no_ends number (mark.Done k outcome ∷ ms) are = absurd (cc (are.0))
-acts_no_ends number (mark.File k location ∷ ms) are = absurd (cc (are.0))
-acts_no_ends number (mark.Held k end ∷ ms) are = absurd (cc (are.0))
+acts_no_ends number (_ ∷ ms) are = absurd (cc (are.0))
 
 pub none_told : (e : Option ℕ) (t : Option ℕ) → listed e ≡ [] → told_now e t ≡ t
 none_told None t is = refl

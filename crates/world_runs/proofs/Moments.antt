@@ -30,13 +30,7 @@ times-push es e is = ap or_defaults (times-push_none es e is)
 
 mark_times : (node : NodeId) (m : Mark) → times_told (entry_of node m) ≡ None
 mark_times node (mark.File file location) = refl
-mark_times node (mark.Begin number c) = refl
-mark_times node (mark.Held file end) = refl
-mark_times node (mark.Active file count id) = refl
-mark_times node (mark.Issue file count id) = refl
-mark_times node (mark.Commit file count id) = refl
-mark_times node (mark.Answer file id count bytes) = refl
-mark_times node (mark.Done number outcome) = refl
+mark_times node _ = refl
 
 one_more : (es : List Entry) (e : Entry) (rest : List Entry) → es ++ e ∷ rest ≡ (es ++ e ∷ []) ++ rest
 one_more es e rest = sym (append_assoc es (e ∷ []) rest)
@@ -140,11 +134,8 @@ inert-acts : (node : NodeId) (m : Mark) (number : ℕ) (by : NodeId) → IsInert
 inert-acts node (mark.Begin k c) number by is acting = cc
 inert-acts node (mark.Done k outcome) number by is acting = cc
 inert-acts node (mark.File k location) number by is acting = cc
-inert-acts node (mark.Held k end) number by is acting = is
-inert-acts node (mark.Active k count write) number by is acting = is
-inert-acts node (mark.Issue k count write) number by is acting = is
-inert-acts node (mark.Commit k count write) number by is acting = is
-inert-acts node (mark.Answer k write count bytes) number by is acting = is
+inert-acts node (mark.List k version members) number by is acting = cc
+inert-acts node _ number by is acting = is
 
 inert-safe : (node : NodeId) (ms : List Mark) (es : List Entry) → AreInert ms → IsSafe es → ApartAt es → IsSafe (es ++ map (entry_of node) ms)
 inert-safe node [] es are safe apart = subst IsSafe (sym (append-nil es)) safe
@@ -167,10 +158,7 @@ act-by node file (mark.Active k count write) number by are acting = one_act node
 act-by node file (mark.Issue k count write) number by are acting = one_act node file k number by are.0 acting
 act-by node file (mark.Commit k count write) number by are acting = one_act node file k number by are.0 acting
 act-by node file (mark.Answer k write count bytes) number by are acting = one_act node file k number by are.0 acting
-act-by node file (mark.Begin k c) number by are acting = absurd (cc (are.0))
-act-by node file (mark.Done k outcome) number by are acting = absurd (cc (are.0))
-act-by node file (mark.File k location) number by are acting = absurd (cc (are.0))
-act-by node file (mark.Held k end) number by are acting = absurd (cc (are.0))
+act-by node file _ number by are acting = absurd (cc (are.0))
 
 acts-safe : (node : NodeId) (file : ℕ) (ms : List Mark) (es : List Entry) → AreActs file ms → holds es node file ≡ true → IsSafe es → ApartAt es → IsSafe (es ++ map (entry_of node) ms)
 acts-safe node file [] es are holding safe apart = subst IsSafe (sym (append-nil es)) safe

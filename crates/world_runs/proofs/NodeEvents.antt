@@ -238,10 +238,7 @@ module _ (files : List PlacedFile) where
     where
       by_answer : (what : MetaAnswer) → AnswerFits files what → AnswerGrants (HeldFits files) what
       by_answer (answer.Granted capability size) fits = (refl, fits)
-      by_answer answer.Done fits = tt
-      by_answer (answer.Refused why) fits = tt
-      by_answer (answer.Names names) fits = tt
-      by_answer (answer.Row how owner group mode size) fits = tt
+      by_answer _ fits = tt
 
       at : (content : Payload) → PayloadFits files content → PayloadGrants (HeldFits files) content
       at (payload.MetaReply number what) fits = by_answer what fits
@@ -379,12 +376,7 @@ client_next w was node r c step shape found is_up is_client fits =
 -- the record of a request is of no start, and stores no list
 request_record : (files : List PlacedFile) (records : List Record) (rec : Record) → IsMetaIfAny (Some rec) → RecordFits files rec × ((fold_of (records ++ rec ∷ [])).boot ≡ (fold_of records).boot)
 request_record files records (kept.Meta from number now nodes what) is = (tt, ap (λ (f : Folded). f.boot) (fold_of-push records (kept.Meta from number now nodes what)))
-request_record files records (kept.Promise file epoch) is = absurd is
-request_record files records (kept.Update file update) is = absurd is
-request_record files records (kept.Stage file object version bytes) is = absurd is
-request_record files records (kept.Head file head) is = absurd is
-request_record files records (kept.View file location) is = absurd is
-request_record files records (kept.Boot boot) is = absurd is
+request_record files records _ is = absurd is
 
 -- what servers send is about no lease
 served_no_lease : (content : Payload) → IsServed content → lease_file content ≡ None

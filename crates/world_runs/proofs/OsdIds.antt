@@ -52,14 +52,9 @@ NoneEnds (m ∷ ms) = EndsNone m × NoneEnds ms
 
 acts_end_none : (number : ℕ) (ms : List Mark) → AreActs number ms → NoneEnds ms
 acts_end_none number [] are = tt
-acts_end_none number (mark.Active k count write ∷ ms) are = (tt, acts_end_none number ms are.1)
-acts_end_none number (mark.Issue k count write ∷ ms) are = (tt, acts_end_none number ms are.1)
-acts_end_none number (mark.Commit k count write ∷ ms) are = (tt, acts_end_none number ms are.1)
-acts_end_none number (mark.Answer k write count bytes ∷ ms) are = (tt, acts_end_none number ms are.1)
-acts_end_none number (mark.Begin k c ∷ ms) are = (tt, acts_end_none number ms are.1)
 acts_end_none number (mark.Done k outcome ∷ ms) are = absurd (cc (are.0))
 acts_end_none number (mark.File k location ∷ ms) are = absurd (cc (are.0))
-acts_end_none number (mark.Held k end ∷ ms) are = (tt, acts_end_none number ms are.1)
+acts_end_none number (_ ∷ ms) are = (tt, acts_end_none number ms are.1)
 
 marks_end_none : (file : FileId) (l : LeaseState) (marks : List Mark) → MarksAre file l marks → NoneEnds marks
 marks_end_none file l marks (no_marks none) = subst NoneEnds (sym none) tt

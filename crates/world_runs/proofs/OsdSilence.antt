@@ -131,14 +131,8 @@ osd_asks_none outside s reading happens files m h = at (awake_at s.started (max 
 
 acts_make_none : (number : ℕ) (ms : List Mark) → AreActs number ms → files_marked ms ≡ []
 acts_make_none number [] are = refl
-acts_make_none number (mark.Active k count write ∷ ms) are = acts_make_none number ms are.1
-acts_make_none number (mark.Issue k count write ∷ ms) are = acts_make_none number ms are.1
-acts_make_none number (mark.Commit k count write ∷ ms) are = acts_make_none number ms are.1
-acts_make_none number (mark.Answer k write count bytes ∷ ms) are = acts_make_none number ms are.1
-acts_make_none number (mark.Begin k c ∷ ms) are = acts_make_none number ms are.1
-acts_make_none number (mark.Done k how ∷ ms) are = acts_make_none number ms are.1
 acts_make_none number (mark.File k location ∷ ms) are = absurd (cc (are.0))
-acts_make_none number (mark.Held k end ∷ ms) are = acts_make_none number ms are.1
+acts_make_none number (_ ∷ ms) are = acts_make_none number ms are.1
 
 marks_make_none : (file : FileId) (l : LeaseState) (marks : List Mark) → MarksAre file l marks → files_marked marks ≡ []
 marks_make_none file l marks (no_marks none) = ap (λ (ms : List Mark). files_marked ms) none

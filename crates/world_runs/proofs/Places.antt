@@ -131,6 +131,7 @@ told_marks files es node (m ∷ ms) told = at m (λ fs more told. told_marks fs 
 
     at : (m : Mark) → Rest → AreTold (files ++ files_marked (m ∷ ms)) (es ++ map (entry_of node) (m ∷ ms))
     at (mark.File file location) rest = made (record { file = file; location = location }) rest
+    at (mark.List file version members) rest = plain (entry.List file.number version members) (λ k. refl) rest
     at (mark.Begin number c) rest = plain (entry.Begin node number c) (λ k. refl) rest
     at (mark.Held file end) rest = plain (entry.Held node file end) (λ k. refl) rest
     at (mark.Active file count id) rest = plain (entry.Active node file count id) (λ k. refl) rest

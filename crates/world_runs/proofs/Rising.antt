@@ -1,13 +1,14 @@
 -- files in a list that rises
-use Rattle.std.proofs.Common.{◌≡◌, inl, inr, List, [], ◌∷◌, refl, ap, sym, ◌∙◌, subst, Bool, true, false}
+use Rattle.std.proofs.Common.{◌≡◌, inl, inr, List, [], ◌∷◌, refl, ap, sym, ◌∙◌, subst, Option, Some, None, Bool, true, false, not}
 use Rattle.std.specs.Prelude.{◌⊎◌, cond}
 use Rattle.std.specs.declared.cmp.Ordering.{Ordering}
 use Rattle.std.specs.declared.cmp.Ordering.TheVariants.{Less, Equal, Greater}
 use Rattle.std.specs.Ordering.{is_lt, is_eq, ordering_reverse}
 use Rattle.xt_base.specs.declared.ids.FileId.{FileId}
 use Rattle.xt_messages.specs.declared.record.FileRow.{FileRow}
+use Rattle.xt_messages.specs.declared.record.Record.{Record}
 use Rattle.xt_protocol.specs.FileIds.{is_file, is_before, file_cmp}
-use Rattle.xt_protocol.specs.Folds.{with_row}
+use Rattle.xt_protocol.specs.Folds.{row_in, row_after, rows_after, forgets, with_row, without_row}
 use Rattle.xt_protocol.proofs.Folds.{file-equal, is_file-file_cmp, file_cmp_total}
 use Rattle.lease_safety.specs.State.{Has}
 use Rattle.xt_protocol.specs.FileStates.{FileState}
@@ -109,7 +110,7 @@ with_row_files (f ∷ fs) r = at (is_file f.file r.file) (is_before r.file f.fil
     at false true rest = refl
     at false false rest = ap (λ others. f.file ∷ others) rest
 
-pub with_row_rises : (rows : List FileRow) (r : FileRow) → Rises (row_files rows) → Rises (row_files (with_row rows r))
+with_row_rises : (rows : List FileRow) (r : FileRow) → Rises (row_files rows) → Rises (row_files (with_row rows r))
 with_row_rises rows r rises = subst Rises (sym (with_row_files rows r)) (put_rises (row_files rows) r.file rises)
 
 -- what is in the lists then
@@ -140,3 +141,45 @@ with_row_has (f ∷ fs) r x h = at (is_file f.file r.file) (is_before r.file f.f
     at false true (inr h) rest = inr h
     at false false (inl e) rest = inr (inl e)
     at false false (inr h) rest = elim (rest h) [ inl e ↦ inl e | inr i ↦ inr (inr i) ]
+
+-- ---- rows that are left when that of a file goes
+
+pub without_row_has : (rows : List FileRow) (gone : FileId) (x : FileRow) → Has x (without_row rows gone) → Has x rows
+unfolding without_row
+without_row_has [] gone x h = h
+without_row_has (r ∷ rows) gone x h = at (not (is_file r.file gone)) h (without_row_has rows gone x)
+  where
+    at : (stays : Bool) → Has x (cond stays (r ∷ without_row rows gone) (without_row rows gone)) → (Has x (without_row rows gone) → Has x rows) → Has x (r ∷ rows)
+    at true (inl e) rest = inl e
+    at true (inr h) rest = inr (rest h)
+    at false h rest = inr (rest h)
+
+left_file : (rows : List FileRow) (gone file : FileId) → Has file (row_files (without_row rows gone)) → Has file (row_files rows)
+unfolding without_row
+left_file [] gone file h = h
+left_file (r ∷ rows) gone file h = at (not (is_file r.file gone)) h (left_file rows gone file)
+  where
+    at : (stays : Bool) → Has file (row_files (cond stays (r ∷ without_row rows gone) (without_row rows gone))) → (Has file (row_files (without_row rows gone)) → Has file (row_files rows))
+        → Has file (row_files (r ∷ rows))
+    at true (inl e) rest = inl e
+    at true (inr h) rest = inr (rest h)
+    at false h rest = inr (rest h)
+
+without_row_rises : (rows : List FileRow) (gone : FileId) → Rises (row_files rows) → Rises (row_files (without_row rows gone))
+unfolding without_row
+without_row_rises [] gone rises = tt
+without_row_rises (r ∷ rows) gone rises = at (not (is_file r.file gone)) (without_row_rises rows gone rises.1)
+  where
+    at : (stays : Bool) → Rises (row_files (without_row rows gone)) → Rises (row_files (cond stays (r ∷ without_row rows gone) (without_row rows gone)))
+    at true rest = (λ file h. rises.0 file (left_file rows gone file h), rest)
+    at false rest = rest
+
+-- ---- a record more
+
+pub rows_after_rise : (rows : List FileRow) (rec : Record) (o : Option FileId) → Rises (row_files rows) → Rises (row_files (rows_after rows rec o))
+rows_after_rise rows rec None rises = rises
+rows_after_rise rows rec (Some file) rises = at (forgets rec)
+  where
+    at : (gone : Bool) → Rises (row_files (cond gone (without_row rows file) (with_row rows (row_after (row_in rows file) rec))))
+    at true = without_row_rises rows file rises
+    at false = with_row_rises rows (row_after (row_in rows file) rec) rises

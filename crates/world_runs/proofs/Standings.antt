@@ -57,6 +57,7 @@ abbrev pub IsInert : Mark → Type 0
 IsInert (mark.File file location) = Unit {0}
 IsInert (mark.Begin number c) = Unit {0}
 IsInert (mark.Done number outcome) = Unit {0}
+IsInert (mark.List file version members) = Unit {0}
 IsInert _ = ⊥
 
 abbrev pub AreInert : List Mark → Type 0
@@ -72,11 +73,8 @@ inert_still node [] are id number before = refl
 inert_still node (mark.Begin k c ∷ ms) are id number before = inert_still node ms are.1 id number before
 inert_still node (mark.Done k outcome ∷ ms) are id number before = inert_still node ms are.1 id number before
 inert_still node (mark.File k location ∷ ms) are id number before = inert_still node ms are.1 id number before
-inert_still node (mark.Held k end ∷ ms) are id number before = absurd are.0
-inert_still node (mark.Active k count write ∷ ms) are id number before = absurd are.0
-inert_still node (mark.Issue k count write ∷ ms) are id number before = absurd are.0
-inert_still node (mark.Commit k count write ∷ ms) are id number before = absurd are.0
-inert_still node (mark.Answer k write count bytes ∷ ms) are id number before = absurd are.0
+inert_still node (mark.List k version members ∷ ms) are id number before = inert_still node ms are.1 id number before
+inert_still node (_ ∷ ms) are id number before = absurd are.0
 
 pub acts_still : (node : NodeId) (file : ℕ) (ms : List Mark) → AreActs file ms → StandStill node ms
 acts_still node file [] are id number before = refl
@@ -84,10 +82,7 @@ acts_still node file (mark.Active k count write ∷ ms) are id number before = a
 acts_still node file (mark.Issue k count write ∷ ms) are id number before = acts_still node file ms are.1 id number before
 acts_still node file (mark.Commit k count write ∷ ms) are id number before = acts_still node file ms are.1 id number before
 acts_still node file (mark.Answer k write count bytes ∷ ms) are id number before = acts_still node file ms are.1 id number before
-acts_still node file (mark.Begin k c ∷ ms) are id number before = absurd (cc (are.0))
-acts_still node file (mark.Done k outcome ∷ ms) are id number before = absurd (cc (are.0))
-acts_still node file (mark.File k location ∷ ms) are id number before = absurd (cc (are.0))
-acts_still node file (mark.Held k end ∷ ms) are id number before = absurd (cc (are.0))
+acts_still node file (_ ∷ ms) are id number before = absurd (cc (are.0))
 
 pub still_standing : (node : NodeId) (ms : List Mark) (id : NodeId) (number : ℕ) (es : List Entry) → StandStill node ms → standing id number (es ++ map (entry_of node) ms) ≡ standing id number es
 unfolding standing

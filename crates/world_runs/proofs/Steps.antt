@@ -447,10 +447,7 @@ content_known es files from to (payload.MetaReply number told) told_so served fi
   where
     granted : (what : MetaAnswer) → AnswerFits files what → AnswerGrants (HeldIs es) what
     granted (answer.Granted capability size) fits = (refl, told_so capability.file.number ∙ ap place_of fits)
-    granted answer.Done fits = tt
-    granted (answer.Refused why) fits = tt
-    granted (answer.Names names) fits = tt
-    granted (answer.Row how owner group mode size) fits = tt
+    granted _ fits = tt
 content_known es files from to (payload.Ask number capability asked) told_so served fits = absurd served
 content_known es files from to (payload.Reply number file said) told_so served fits = absurd served
 content_known es files from to _ told_so served fits = tt

@@ -48,8 +48,7 @@ of_file file content (Some (kept.Update f update)) is = ap (λ k. Some k) is
 of_file file content (Some (kept.Stage f object version bytes)) is = ap (λ k. Some k) is
 of_file file content (Some (kept.Head f head)) is = ap (λ k. Some k) is
 of_file file content (Some (kept.View f location)) is = ap (λ k. Some k) is.0
-of_file file content (Some (kept.Boot boot)) is = absurd is
-of_file file content (Some (kept.Meta from number now nodes request)) is = absurd is
+of_file file content (Some _) is = absurd is
 
 not_of : (file k : FileId) (rec : Option Record) → IsOf file rec → is_file file k ≡ false → IsNotOf k rec
 not_of file k None is differ = tt

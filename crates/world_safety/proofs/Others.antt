@@ -111,12 +111,7 @@ again_is node times c reading =
 meta_away : (file : FileId) (rec : Option Record) → IsMetaIfAny rec → IsNotOf file rec
 meta_away file None is = tt
 meta_away file (Some (kept.Meta client number now nodes what)) is = tt
-meta_away file (Some (kept.Promise f epoch)) is = absurd is
-meta_away file (Some (kept.Update f update)) is = absurd is
-meta_away file (Some (kept.Stage f object version bytes)) is = absurd is
-meta_away file (Some (kept.Head f head)) is = absurd is
-meta_away file (Some (kept.View f location)) is = absurd is
-meta_away file (Some (kept.Boot boot)) is = absurd is
+meta_away file (Some _) is = absurd is
 
 served_says : (content : Payload) → IsServed content → (n : ℕ) → shown n content ≡ []
 served_says (payload.MetaReply number told) is n = refl

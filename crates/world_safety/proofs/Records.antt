@@ -11,7 +11,7 @@ use Rattle.xt_messages.specs.declared.record.Folded.{Folded}
 use Rattle.xt_protocol.specs.FileIds.{is_file}
 use Rattle.xt_protocol.specs.Stamps.{is_stamp}
 use Rattle.xt_protocol.specs.Folds.{fold_of, row_in, row_after, rows_after, file_of, makes_body, body_put, body_kept, newer}
-use Rattle.xt_protocol.proofs.Folds.{file-itself, row_in-with_row, row_in-file, row_after-file, fold_of-push, body_kept-push}
+use Rattle.xt_protocol.proofs.Folds.{file-itself, row_in-rows_after, row_in-file, fold_of-push, body_kept-push}
 use Rattle.xt_protocol.specs.FileStates.{FileState}
 use Rattle.xt_protocol.specs.PrimaryRows.{newer_body, body_beyond}
 use Rattle.file_runs.specs.FileRuns.{FileNode, keeping}
@@ -25,11 +25,8 @@ row_put : (records : List Record) (rec : Record) (file f : FileId) → file_of r
     → row_in (fold_of (records ++ rec ∷ [])).files file ≡ cond (is_file f file) (row_after (row_in (fold_of records).files f) rec) (row_in (fold_of records).files file)
 row_put records rec file f is =
     let rows = (fold_of records).files in
-    let row = row_after (row_in rows f) rec in
     ap (λ (k : Folded). row_in k.files file) (fold_of-push records rec)
-    ∙ (ap (λ (o : Option FileId). row_in (rows_after rows rec o) file) is
-    ∙ (row_in-with_row rows row file
-    ∙ ap (λ (k : FileId). cond (is_file k file) row (row_in rows file)) (row_after-file (row_in rows f) rec ∙ row_in-file rows f)))
+    ∙ (ap (λ (o : Option FileId). row_in (rows_after rows rec o) file) is ∙ row_in-rows_after rows rec f file)
 
 -- a record of the file changes its row
 pub row_own : (records : List Record) (rec : Record) (file : FileId) → file_of rec ≡ Some file
@@ -63,13 +60,11 @@ body_own records rec file =
     ∙ body_after (body_kept records file object version) (body_put file object version rec)))
 
 none_put : (file : FileId) (object : ℕ) (version : Stamp) (rec : Record) → IsElsewhere file (file_of rec) → body_put file object version rec ≡ None
-none_put file object version (kept.Promise f epoch) away = refl
 none_put file object version (kept.Update f update) away = ap (λ (b : Bool). cond (b && makes_body update object version) (Some update.body) None) away
 none_put file object version (kept.Stage f o v bytes) away = ap (λ (b : Bool). cond (b && (o == object) && is_stamp v version) (Some bytes) None) away
-none_put file object version (kept.Head f head) away = refl
-none_put file object version (kept.View f location) away = refl
-none_put file object version (kept.Boot boot) away = refl
-none_put file object version (kept.Meta from number now nodes request) away = refl
+none_put file object version (kept.OldUpdate f update) away = ap (λ (b : Bool). cond (b && makes_body update object version) (Some update.body) None) away
+none_put file object version (kept.OldStage f o v bytes) away = ap (λ (b : Bool). cond (b && (o == object) && is_stamp v version) (Some bytes) None) away
+none_put file object version _ away = refl
 
 pub body_other : (records : List Record) (rec : Record) (file : FileId) → IsElsewhere file (file_of rec) → body_by (records ++ rec ∷ []) file ≡ body_by records file
 body_other records rec file away =

@@ -58,8 +58,11 @@ first_begins stripe ops members some =
       };
       promised = λ r. omega arith;
       older = λ u h. absurd h;
+      own = omega arith;
       apart = λ u v h k e. absurd h;
       made = tt;
+      old_older = λ b h. absurd h;
+      old_right = λ b u h k e. absurd h;
     }
 
 first_file : (stripe : ℕ) (members : List ℕ) (file : FileId) → BeginsFile stripe members first_start (first_world file)
@@ -71,7 +74,7 @@ first_file stripe members file =
       names = λ r v h. absurd h;
       list = λ r. tt;
       free = refl;
-      silent = refl;
+      silent = λ x h. absurd h;
       untold = refl;
     }
 

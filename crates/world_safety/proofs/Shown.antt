@@ -51,14 +51,12 @@ next_says number e more none rest stripe ops entries tales so =
 -- what a client or a server marks
 pub inert_says : (number : ℕ) (node : NodeId) (marks : List Mark) → AreInert marks → SaysNothing number (map (entry_of node) marks)
 inert_says number node [] are = none_says number
-inert_says number node (mark.Begin k c ∷ ms) are = next_says number (entry.Begin node k c) (map (entry_of node) ms) refl (inert_says number node ms are.1)
-inert_says number node (mark.Done k outcome ∷ ms) are = next_says number (entry.Done node k outcome) (map (entry_of node) ms) refl (inert_says number node ms are.1)
-inert_says number node (mark.File k location ∷ ms) are = next_says number (entry.File k.number location) (map (entry_of node) ms) refl (inert_says number node ms are.1)
 inert_says number node (mark.Held k end ∷ ms) are = absurd are.0
 inert_says number node (mark.Active k count write ∷ ms) are = absurd are.0
 inert_says number node (mark.Issue k count write ∷ ms) are = absurd are.0
 inert_says number node (mark.Commit k count write ∷ ms) are = absurd are.0
 inert_says number node (mark.Answer k write count bytes ∷ ms) are = absurd are.0
+inert_says number node (m ∷ ms) are = next_says number (entry_of node m) (map (entry_of node) ms) refl (inert_says number node ms are.1)
 
 -- what a step of another file marks
 pub others_say : (number : ℕ) (node : NodeId) (file : FileId) (l : LeaseState) (marks : List Mark) → (IsHeld l → (file.number == number) ≡ false) → MarksAre file l marks → SaysNothing number (map (entry_of node) marks)

@@ -50,15 +50,7 @@ module _ (stripe : ℕ) (ops : ℕ × ℕ → Op) (file : ℕ) where
   tells_none (entry.Issue node f count id) before is = skips (f == file) (TellsIssue node.0 count (name_of id)) before (apart (f == file) node is)
   tells_none (entry.Commit node f count id) before is = skips (f == file) (TellsCommit node.0 count (name_of id)) before (apart (f == file) node is)
   tells_none (entry.Answer node f id count bytes) before is = passes node.0 id count bytes before (f == file) (apart (f == file) node is)
-  tells_none (entry.Times lease drift) before is = refl
-  tells_none (entry.File number location) before is = refl
-  tells_none (entry.Clock node clock) before is = refl
-  tells_none (entry.Tick count) before is = refl
-  tells_none (entry.Up node boot clock) before is = refl
-  tells_none (entry.Down node clock how) before is = refl
-  tells_none (entry.Begin client number call) before is = refl
-  tells_none (entry.Held node f end) before is = refl
-  tells_none (entry.Done client number outcome) before is = refl
+  tells_none _ before is = refl
 
   elsewhere_none : (f other : ℕ) (node : NodeId) → Some f ≡ Some other → (other == file) ≡ false → (if f == file then Some node else None) ≡ None
   elsewhere_none f other node is differ =
@@ -69,10 +61,7 @@ module _ (stripe : ℕ) (ops : ℕ × ℕ → Op) (file : ℕ) where
   mark_none node other (mark.Issue f count id) ms differ are = elsewhere_none f other node are.0 differ
   mark_none node other (mark.Commit f count id) ms differ are = elsewhere_none f other node are.0 differ
   mark_none node other (mark.Answer f id count bytes) ms differ are = elsewhere_none f other node are.0 differ
-  mark_none node other (mark.File f location) ms differ are = refl
-  mark_none node other (mark.Begin number c) ms differ are = refl
-  mark_none node other (mark.Held f end) ms differ are = refl
-  mark_none node other (mark.Done number outcome) ms differ are = refl
+  mark_none node other _ ms differ are = refl
 
   marks_none : (node : NodeId) (other : ℕ) (ms : List Mark) (before : List heads.Entry) → (other == file) ≡ false → AreActs other ms → Tells stripe ops file (map (entry_of node) ms) before before
   marks_none node other [] before differ are = refl

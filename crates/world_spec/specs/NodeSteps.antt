@@ -86,6 +86,7 @@ core_step times node (dir state) clock happens = dir_steps (step_of_dir state ha
 -- the line of the trace for a mark of a node
 abbrev pub entry_of : NodeId → Mark → Entry
 entry_of node (mark.File file location) = entry.File file.number location
+entry_of node (mark.List file version members) = entry.List file.number version members
 entry_of node (mark.Begin number c) = entry.Begin node number c
 entry_of node (mark.Held file end) = entry.Held node file end
 entry_of node (mark.Active file count id) = entry.Active node file count id

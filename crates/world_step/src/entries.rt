@@ -17,6 +17,15 @@ fn entry_of(node: NodeId, mark: Mark) -> Entry
             number: file.number,
             location,
         },
+        Mark::List {
+            file,
+            version,
+            members,
+        } => Entry::List {
+            number: file.number,
+            version,
+            members,
+        },
         Mark::Begin { number, call } => Entry::Begin {
             client: node,
             number,

@@ -1,5 +1,5 @@
 ghost use Rattle.std.specs.Prelude.{◌≡◌, ◌≤◌, ◌+◌, ◌*◌, length, sum_by};
-ghost use Rattle.xt_messages.specs.FrameLength.{octets_length, text_length, report_length, location_length, capability_length, head_length, update_length, op_length, reply_length, meta_req_length, meta_refusal_length, meta_answer_length, registry_req_length, row_length, registry_answer_length, payload_length, frame_length};
+ghost use Rattle.xt_messages.specs.FrameLength.{octets_length, text_length, report_length, location_length, capability_length, head_length, update_length, op_length, reply_length, meta_req_length, meta_refusal_length, meta_answer_length, registry_req_length, row_length, registry_answer_length, payload_length, list_length, frame_length};
 ghost use Rattle.world_tables.specs.Within64.{within_64};
 
 use xt_base::{Lease, Name, Octets};
@@ -52,7 +52,7 @@ fn head_length(head: &FileHead) -> u64
     let versions = head.versions.as_slice().len() as u64;
     let sessions = head.sessions.as_slice().len() as u64;
     let rows = versions
-        .saturating_mul(24)
+        .saturating_mul(28)
         .saturating_add(sessions.saturating_mul(20));
     rows.saturating_add(68)
 }
@@ -60,15 +60,15 @@ fn head_length(head: &FileHead) -> u64
 fn update_length(update: &Update) -> u64
     ensures { result ≡ within_64 (update_length update.now) }
 {
-    octets_length(&update.body).saturating_add(56)
+    octets_length(&update.body).saturating_add(64)
 }
 
 fn op_length(op: &Op) -> u64
     ensures { result ≡ within_64 (op_length op.now) }
 {
     match op {
-        Op::Read { .. } => 13,
-        Op::Write { bytes, .. } => octets_length(bytes).saturating_add(9),
+        Op::Read { .. } => 17,
+        Op::Write { bytes, .. } => octets_length(bytes).saturating_add(13),
         Op::Truncate { .. } => 9,
     }
 }
@@ -107,6 +107,10 @@ fn meta_req_length(request: &MetaReq) -> u64
         MetaReq::Chmod { path, .. } => text_length(path).saturating_add(3),
         MetaReq::Grant { path, .. } => text_length(path).saturating_add(2),
         MetaReq::Report { capability, .. } => 17 + capability_length(capability),
+        MetaReq::Change { path, nodes } => text_length(path).saturating_add(
+            2 + 4 * nodes.as_slice().len() as u64,
+        ),
+        MetaReq::Locate { path } => text_length(path).saturating_add(1),
     }
 }
 
@@ -123,7 +127,9 @@ fn meta_refusal_length(refusal: &MetaRefusal) -> u64
         | MetaRefusal::NotEmpty
         | MetaRefusal::IntoSelf
         | MetaRefusal::OtherVolume
-        | MetaRefusal::NameBad => 1,
+        | MetaRefusal::NameBad
+        | MetaRefusal::NotReplicated => 1,
+        MetaRefusal::Changing { .. } | MetaRefusal::UnknownOsd { .. } => 5,
     }
 }
 
@@ -146,6 +152,7 @@ fn meta_answer_length(answer: &MetaAnswer) -> u64
         MetaAnswer::Names { names } => texts_length(names.as_slice()).saturating_add(5),
         MetaAnswer::Row { .. } => 28,
         MetaAnswer::Granted { capability, .. } => 17 + capability_length(capability),
+        MetaAnswer::Located { location, .. } => 2 + location_length(location),
     }
 }
 
@@ -199,16 +206,16 @@ fn payload_length(payload: &Payload) -> u64
         Payload::Outrun { .. } => 64,
         Payload::Gather { .. } => 36,
         Payload::Status { head, .. } => head_length(head).saturating_add(36),
-        Payload::Fetch { .. } => 60,
-        Payload::Object { bytes, .. } => octets_length(bytes).saturating_add(60),
-        Payload::Stage { bytes, .. } => octets_length(bytes).saturating_add(60),
-        Payload::Staged { .. } => 60,
+        Payload::Fetch { .. } => 64,
+        Payload::Object { bytes, .. } => octets_length(bytes).saturating_add(64),
+        Payload::Stage { bytes, .. } => octets_length(bytes).saturating_add(64),
+        Payload::Staged { .. } => 64,
         Payload::Head { head, .. } => head_length(head).saturating_add(36),
         Payload::Update { update, .. } => update_length(update).saturating_add(24),
         Payload::Ack { .. } => 44,
         Payload::Refused { .. } => 48,
         Payload::Behind { .. } => 56,
-        Payload::Missing { .. } => 60,
+        Payload::Missing { .. } => 64,
         Payload::Ask { capability, op, .. } => op_length(op).saturating_add(
             8 + capability_length(capability),
         ),
@@ -218,12 +225,28 @@ fn payload_length(payload: &Payload) -> u64
         Payload::Registry { request, .. } => registry_req_length(request).saturating_add(8),
         Payload::RegistryReply { answer, .. } => registry_answer_length(answer).saturating_add(8),
         Payload::Stop { .. } => 32,
+        Payload::Close { .. } => 28,
+        Payload::Closed { head, .. } => head_length(head).saturating_add(28),
+        Payload::Install { location, head, .. } => head_length(head).saturating_add(
+            28 + location_length(location),
+        ),
+        Payload::Installed { .. } => 28,
+        Payload::Pull { .. } => 52,
+        Payload::Pulled { bytes, .. } => octets_length(bytes).saturating_add(52),
+        Payload::Wanted { .. } => 24,
     }
+}
+
+/// The version of a list above the first one, and the kind once more.
+fn list_length(list: u32) -> u64
+    ensures { result ≡ list_length list }
+{
+    if list == 1 { 0 } else { 5 }
 }
 
 /// The length of the message's frame in bytes, or the greatest number of 64 bits where it is longer.
 pub fn frame_length(message: &Msg) -> u64
     ensures { result ≡ within_64 (frame_length message.now) }
 {
-    payload_length(&message.payload).saturating_add(14)
+    payload_length(&message.payload).saturating_add(14 + list_length(message.list))
 }

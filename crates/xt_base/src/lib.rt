@@ -15,7 +15,7 @@ mod times;
 
 pub use address::Address;
 pub use ids::{Ballot, Boot, Epoch, FileId, Lease, NodeId, OpId, SizeMark, Stamp, VolumeId};
-pub use lists::{Copies, Name, Octets, OutOfMemory, Seq, Words};
+pub use lists::{Buffer, Copies, Name, Octets, OutOfMemory, Seq, Words};
 pub use members::{BadMembers, Members, has_node};
 pub use optional_box::OptionalBox;
 pub use outside::{CallList, Failed};
@@ -28,15 +28,15 @@ pub const DIR_NODE: NodeId = NodeId(900);
 pub const MRC_NODE: NodeId = NodeId(901);
 
 /// How many objects a replicated file may have, or a striped one on each of its OSDs.
-pub const OBJECTS: u64 = 4_096;
+pub const OBJECTS: u64 = 16_384;
 
 /// The longest frame, and so the longest message, in bytes.
-pub const FRAME: usize = 262_144;
+pub const FRAME: usize = 1_048_576;
 
 /// The longest `bytes` field of a message, and so the largest stripe, in bytes.
 pub const BODY: usize = 131_072;
 
-/// The greatest number of an object that a 32-bit field holds as an object. It stands for none in an update.
+/// The greatest number of 64 bits. In an update it stands for no object.
 pub const NO_OBJECT: u64 = u64::MAX;
 
 /// How many clients may write to a file.

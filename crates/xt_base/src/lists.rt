@@ -1,5 +1,6 @@
 ghost use Rattle.std.specs.Prelude.{◌≡◌, ◌++◌, ◌∷◌, ◌<◌, ℕ, List, [], length, slice_get, slice_index, IfOk, OnOk, OnErr, string_bytes};
 
+use bytes::Bytes;
 use std::alloc::{AllocError, Global};
 use std::marker::Model;
 
@@ -71,25 +72,26 @@ impl<T: Copies> Copies for Seq<T> {
     }
 }
 
-/// A list of bytes, which contracts see as one.
+/// Bytes that may have several holders, which contracts see as a list. A copy, or a part, is a holder more of the same bytes, and
+/// takes no memory.
 #[derive(Drop)]
 pub struct Octets {
-    bytes: Vec<u8>,
+    bytes: Bytes,
 }
 
 impl Model for Octets {
     ghost Value = { List ℕ };
 
-    ghost view = { λ o. o.bytes.items };
+    ghost view = { λ o. o.bytes };
 }
 
 impl Octets {
     /// No bytes.
-    pub fn new(alloc: Global) -> Octets
+    pub fn new(_alloc: Global) -> Octets
         ensures { result ≡ [] }
     {
         Octets {
-            bytes: Vec::new(alloc),
+            bytes: Bytes::new(),
         }
     }
 
@@ -98,17 +100,17 @@ impl Octets {
         ensures { IfOk result (λ made. made ≡ bytes.now) }
     {
         Ok(Octets {
-            bytes: Vec::from_slice(alloc, bytes)?,
+            bytes: Bytes::copy_from_slice(alloc, bytes)?,
         })
     }
 
-    /// Appends a byte.
-    pub fn push(&mut self, byte: u8) -> Result<(), OutOfMemory>
-        ensures ok { OnOk result (self.new ≡ self.old ++ byte ∷ []) }
-        ensures err { OnErr result (self.new ≡ self.old) }
+    /// The bytes of a vector, which has one holder until here.
+    pub fn from_vec(bytes: Vec<u8>) -> Result<Octets, OutOfMemory>
+        ensures { IfOk result (λ made. made ≡ bytes.items) }
     {
-        self.bytes.push(byte)?;
-        Ok(())
+        Ok(Octets {
+            bytes: Bytes::from_vec(bytes)?,
+        })
     }
 
     /// The bytes in order.
@@ -119,17 +121,47 @@ impl Octets {
     }
 }
 
-impl From<Vec<u8>> for Octets {
-    ghost from_gives = { λ bytes made. made ≡ bytes.items };
-
-    fn from(bytes: Vec<u8>) -> Octets {
-        Octets { bytes }
+impl Copies for Octets {
+    fn copy(&self, _alloc: Global) -> Result<Octets, OutOfMemory> {
+        Ok(Octets {
+            bytes: self.bytes.clone()?,
+        })
     }
 }
 
-impl Copies for Octets {
-    fn copy(&self, alloc: Global) -> Result<Octets, OutOfMemory> {
-        Octets::of(alloc, self.as_slice())
+/// Bytes of one holder, as a message that was joined of parts. Contracts see them as a list.
+#[derive(Drop)]
+pub struct Buffer {
+    bytes: Vec<u8>,
+}
+
+impl Model for Buffer {
+    ghost Value = { List ℕ };
+
+    ghost view = { λ b. b.bytes.items };
+}
+
+impl Buffer {
+    /// The bytes in order.
+    pub fn as_slice(&self) -> &[u8]
+        ensures { result.now ≡ self.now }
+    {
+        self.bytes.as_slice()
+    }
+
+    /// The same bytes, which can have several holders from here on.
+    pub fn share(self) -> Result<Octets, OutOfMemory>
+        ensures { IfOk result (λ made. made ≡ self) }
+    {
+        Octets::from_vec(self.bytes)
+    }
+}
+
+impl From<Vec<u8>> for Buffer {
+    ghost from_gives = { λ bytes made. made ≡ bytes.items };
+
+    fn from(bytes: Vec<u8>) -> Buffer {
+        Buffer { bytes }
     }
 }
 

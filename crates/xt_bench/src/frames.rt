@@ -28,7 +28,7 @@ fn object_of(alloc: Global, size: usize) -> Result<Msg>
             epoch,
             object: 0,
             version: Stamp { epoch, count: 1 },
-            bytes: Octets::from(vec![in alloc; 7u8; size]?),
+            bytes: Octets::from_vec(vec![in alloc; 7u8; size]?)?,
         },
     })
 }

@@ -12,7 +12,7 @@ fn message_of(alloc: Global, size: usize) -> Result<Octets>
     ensures limit { IfOk result (λ message. length message ≤ FRAME) }
 {
     ensure!(size >= 1 && size <= FRAME, "no message has {size} bytes");
-    Ok(Octets::from(vec![in alloc; 7u8; size]?))
+    Ok(Octets::from_vec(vec![in alloc; 7u8; size]?)?)
 }
 
 /// Cuts a message so many times, and gives the bytes of all parts.

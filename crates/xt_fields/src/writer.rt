@@ -138,9 +138,16 @@ impl FieldWriter {
     }
 
     /// The bytes.
-    pub fn finish(self) -> Octets
-        ensures { result ≡ self }
+    pub fn finish(self) -> Result<Octets, OutOfMemory>
+        ensures { IfOk result (λ made. made ≡ self) }
     {
-        Octets::from(self.bytes)
+        Octets::from_vec(self.bytes)
+    }
+
+    /// The bytes so far.
+    pub fn as_slice(&self) -> &[u8]
+        ensures { result.now ≡ self.now }
+    {
+        self.bytes.as_slice()
     }
 }

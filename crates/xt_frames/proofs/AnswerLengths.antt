@@ -1,5 +1,5 @@
 -- fields are as long as the rule says, and no longer than their limits
-use Rattle.std.proofs.Common.{◌≡◌, ℕ, ◌+◌, ◌*◌, ◌≤◌, List, [], ◌∷◌, ◌++◌, length, refl, arith}
+use Rattle.std.proofs.Common.{◌≡◌, ℕ, Bool, true, false, ◌+◌, ◌*◌, ◌≤◌, List, [], ◌∷◌, ◌++◌, length, refl, arith}
 use Rattle.std.specs.Prelude.{sum_by}
 use Rattle.std.specs.List.{flat_map, AllByRecursion}
 use Rattle.std.proofs.lemmas.List.{length-append}
@@ -22,12 +22,13 @@ use Rattle.xt_messages.specs.Limits.{FitsRow, FitsReply, FitsMetaAnswer, FitsReg
 use Rattle.xt_messages.specs.FrameLength.{text_length, reply_length, meta_refusal_length, meta_answer_length, row_length, registry_answer_length}
 use Rattle.xt_fields.specs.BasicFields.{byte_bytes, half_bytes, word_bytes, long_bytes, octets_bytes, text_bytes}
 use Rattle.xt_wire.specs.IdFields.{node_bytes, mark_bytes}
-use Rattle.xt_wire.specs.FileFields.{capability_bytes}
+use Rattle.xt_wire.specs.FileFields.{location_bytes, capability_bytes}
 use Rattle.xt_frames.specs.ReplyFields.{denial_bytes, reply_bytes}
-use Rattle.xt_frames.specs.MetaAnswers.{refusal_bytes, names_bytes, row_kind_bytes, meta_answer_bytes}
+use Rattle.xt_frames.specs.MetaAnswers.{refusal_bytes, flag_bytes, names_bytes, row_kind_bytes, meta_answer_bytes}
 use Rattle.xt_frames.specs.RegistryAnswers.{row_bytes, rows_bytes, registry_answer_bytes}
 use Rattle.xt_fields.proofs.BasicLaws.{half-length, word-length, long-length}
-use Rattle.xt_wire.proofs.FieldLengths.{mark_len, octets_len, text_len, summed_len, capability_len, members_bound}
+use Rattle.xt_wire.proofs.FieldLengths.{mark_len, octets_len, text_len, summed_len, location_len, capability_len, members_bound}
+use Rattle.xt_wire.proofs.FileLaws.{members_few}
 
 pub denial_len : (x : Denial) → length (denial_bytes x) ≡ 1
 denial_len denial.Tag = refl
@@ -60,6 +61,9 @@ refusal_len refusal.NameBad = refl
 refusal_len (refusal.Forbidden rule) = refl
 refusal_len (refusal.TooFew have) = refl
 refusal_len (refusal.Denied rule) = omega (arith, denial_len rule)
+refusal_len (refusal.Changing version) = omega (arith, length-append (byte_bytes 16) (word_bytes version), word-length version)
+refusal_len refusal.NotReplicated = refl
+refusal_len (refusal.UnknownOsd node) = omega (arith, length-append (byte_bytes 18) (node_bytes node), word-length node.0)
 
 pub names_len : (x : List (List ℕ)) → length (names_bytes x) ≡ 4 + sum_by text_length x
 names_len x = omega (arith, length-append (word_bytes (length x)) (flat_map text_bytes x), word-length (length x), summed_len text_bytes text_length text_len x)
@@ -68,12 +72,17 @@ pub row_kind_len : (x : RowKind) → length (row_kind_bytes x) ≡ 1
 row_kind_len row_kind.Directory = refl
 row_kind_len row_kind.File = refl
 
+pub flag_len : (x : Bool) → length (flag_bytes x) ≡ 1
+flag_len false = refl
+flag_len true = refl
+
 pub meta_answer_len : (x : MetaAnswer) → FitsMetaAnswer x → length (meta_answer_bytes x) ≡ meta_answer_length x
 meta_answer_len answer.Done h = refl
 meta_answer_len (answer.Names names) h = omega (arith, length-append (byte_bytes 12) (names_bytes names), names_len names)
 meta_answer_len (answer.Row kind owner group mode mark) h = omega (arith, length-append (byte_bytes 13) (row_kind_bytes kind), row_kind_len kind, length-append (byte_bytes 13 ++ row_kind_bytes kind) (word_bytes owner), word-length owner, length-append (byte_bytes 13 ++ row_kind_bytes kind ++ word_bytes owner) (word_bytes group), word-length group, length-append (byte_bytes 13 ++ row_kind_bytes kind ++ word_bytes owner ++ word_bytes group) (half_bytes mode), half-length mode, length-append (byte_bytes 13 ++ row_kind_bytes kind ++ word_bytes owner ++ word_bytes group ++ half_bytes mode) (mark_bytes mark), mark_len mark)
 meta_answer_len (answer.Granted capability mark) h = omega (arith, length-append (byte_bytes 14) (capability_bytes capability), capability_len capability h.0, length-append (byte_bytes 14 ++ capability_bytes capability) (mark_bytes mark), mark_len mark)
 meta_answer_len (answer.Refused refusal) h = refusal_len refusal
+meta_answer_len (answer.Located location changing) h = omega (arith, length-append (byte_bytes 15) (location_bytes location), location_len location, length-append (byte_bytes 15 ++ location_bytes location) (flag_bytes changing), flag_len changing)
 
 pub row_len : (x : RegistryRow) → length (row_bytes x) ≡ row_length x
 row_len x = omega (arith, word-length x.node.0, length-append (node_bytes x.node) (byte_bytes x.kind), length-append (node_bytes x.node ++ byte_bytes x.kind) (text_bytes x.address), text_len x.address, length-append (node_bytes x.node ++ byte_bytes x.kind ++ text_bytes x.address) (long_bytes x.version), long-length x.version)
@@ -107,7 +116,7 @@ reply_bound (reply.OldEpoch epoch) h = omega arith
 reply_bound (reply.TooFar object) h = omega arith
 reply_bound reply.ClientsFull h = omega arith
 
-pub refusal_bound : (x : MetaRefusal) → meta_refusal_length x ≤ 2
+pub refusal_bound : (x : MetaRefusal) → meta_refusal_length x ≤ 5
 refusal_bound refusal.NotFound = omega arith
 refusal_bound refusal.Exists = omega arith
 refusal_bound refusal.NotDir = omega arith
@@ -119,6 +128,9 @@ refusal_bound refusal.NameBad = omega arith
 refusal_bound (refusal.Forbidden rule) = omega arith
 refusal_bound (refusal.TooFew have) = omega arith
 refusal_bound (refusal.Denied rule) = omega arith
+refusal_bound (refusal.Changing version) = omega arith
+refusal_bound refusal.NotReplicated = omega arith
+refusal_bound (refusal.UnknownOsd node) = omega arith
 
 pub meta_answer_bound : (x : MetaAnswer) → FitsMetaAnswer x → meta_answer_length x ≤ 131589
 meta_answer_bound answer.Done h = omega arith
@@ -126,6 +138,7 @@ meta_answer_bound (answer.Refused refusal) h = omega (arith, refusal_bound refus
 meta_answer_bound (answer.Names names) h = omega (arith, h.few, names_bound names h.each)
 meta_answer_bound (answer.Row kind owner group mode mark) h = omega arith
 meta_answer_bound (answer.Granted capability mark) h = omega (arith, members_bound capability h.0)
+meta_answer_bound (answer.Located location changing) h = omega (arith, members_few location.members h.nodes.different)
 
 pub registry_answer_bound : (x : RegistryAnswer) → FitsRegistryAnswer x → registry_answer_length x ≤ 69125
 registry_answer_bound (told.Done version) h = omega arith

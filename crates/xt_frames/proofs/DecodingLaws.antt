@@ -1,5 +1,5 @@
 -- A frame that is read stands at the front, and a frame at the front is read, whatever follows it.
-use Rattle.std.proofs.Common.{◌≡◌, ℕ, suc, ◌+◌, ◌-◌, ◌≤◌, Bool, true, false, cond, eqb, ltb, leb, ◌&&◌, List, [], ◌∷◌, ◌++◌, length, take, drop, Result, Ok, Err, refl, sym, ap, subst, ◌∙◌, append_assoc, arith}
+use Rattle.std.proofs.Common.{◌≡◌, ℕ, suc, ◌+◌, ◌-◌, ◌≤◌, Bool, true, false, cond, eqb, ltb, List, [], ◌∷◌, ◌++◌, length, take, drop, Result, Ok, Err, refl, sym, ap, subst, ◌∙◌, append_assoc, arith}
 use Rattle.std.specs.Prelude.{IfOk}
 use Rattle.std.proofs.lemmas.Bool.{ltb-false, le-ltb, eqb-true}
 use Rattle.std.proofs.lemmas.List.{append-nil, nil_from_length, take_at, drop_at, take-append-drop, length-append, length-take}
@@ -11,9 +11,9 @@ use Rattle.xt_fields.specs.BasicFields.{word_bytes, byte_at, word_at}
 use Rattle.xt_fields.proofs.BasicLaws.{word_field, word-length, bytes-take}
 use Rattle.xt_frames.specs.declared.fault.FrameErr.{FrameErr}
 use Rattle.xt_frames.specs.declared.fault.FrameErr.TheVariants as fault
-use Rattle.xt_frames.specs.Frames.{kind_of, content_of, frame_of}
+use Rattle.xt_frames.specs.Frames.{frame_kind, content_of, frame_of}
 use Rattle.xt_frames.specs.PayloadFields.{message_at}
-use Rattle.xt_frames.specs.Decoding.{◌>>=◌, as_frame, first_word, cut_of, part_of, kind_at, head_at, whole, message_of, decoded, Gives}
+use Rattle.xt_frames.specs.Decoding.{◌>>=◌, as_frame, first_word, cut_of, part_of, is_kind, kind_at, head_at, whole, message_of, decoded, Gives}
 use Rattle.xt_frames.proofs.PayloadLaws.{addressed, message_takes, message_again, kind_fits}
 use Rattle.xt_frames.proofs.LengthLaws.{content_len, frame_bound}
 
@@ -72,7 +72,7 @@ part_takes bytes part all e =
     let g0 = went_on (ltb (length bytes) 4) fault.Truncated (as_frame (word_at bytes)) a.0 a.1 in
     let w = word_field.takes bytes a.0 all (framed (word_at bytes) a.0 g0.1) in
     let n = a.0.0 in
-    let g1 = went_on (ltb 262144 n) fault.TooLong (cond (ltb (length bytes) n) (Err fault.Truncated) (cond (ltb n 14) (Err fault.Field) (Ok (take (n - 4) (drop 4 bytes))))) part a.2 in
+    let g1 = went_on (ltb 1048576 n) fault.TooLong (cond (ltb (length bytes) n) (Err fault.Truncated) (cond (ltb n 14) (Err fault.Field) (Ok (take (n - 4) (drop 4 bytes))))) part a.2 in
     let g2 = went_on (ltb (length bytes) n) fault.Truncated (cond (ltb n 14) (Err fault.Field) (Ok (take (n - 4) (drop 4 bytes)))) part g1.1 in
     let g3 = went_on (ltb n 14) fault.Field (Ok (take (n - 4) (drop 4 bytes))) part g2.1 in
     let long : n ≤ length bytes = ltb-false _ _ g2.0 in
@@ -93,14 +93,14 @@ part_takes bytes part all e =
 
 -- ---- the version, the kind and the fields
 
-head_takes : (part : List ℕ) (x : ℕ × List ℕ) → AreBytes part → head_at part ≡ Ok x → (part ≡ 1 ∷ x.0 ∷ x.1) × AreBytes x.1
+head_takes : (part : List ℕ) (x : ℕ × List ℕ) → AreBytes part → head_at part ≡ Ok x → (part ≡ 2 ∷ x.0 ∷ x.1) × AreBytes x.1
 unfolding head_at kind_at byte_at
 head_takes [] x all e = absurd cc
-head_takes (v ∷ []) x all e = let g = passed (eqb v 1) fault.Version (Err fault.Field) x e in absurd cc
+head_takes (v ∷ []) x all e = let g = passed (eqb v 2) fault.Version (Err fault.Field) x e in absurd cc
 head_takes (v ∷ k ∷ rest) x all e =
-    let g = passed (eqb v 1) fault.Version (cond (leb 1 k && leb k 24) (Ok (k, rest)) (Err fault.Kind)) x e in
-    let h = passed (leb 1 k && leb k 24) fault.Kind (Ok (k, rest)) x g.1 in
-    let version : v ≡ 1 = eqb-true v 1 g.0 in
+    let g = passed (eqb v 2) fault.Version (cond (is_kind k) (Ok (k, rest)) (Err fault.Kind)) x e in
+    let h = passed (is_kind k) fault.Kind (Ok (k, rest)) x g.1 in
+    let version : v ≡ 2 = eqb-true v 2 g.0 in
     let number : k ≡ x.0 = ap (λ (p : ℕ × List ℕ). p.0) (pair_is (k, rest) x h.1) in
     let others : rest ≡ x.1 = ap (λ (p : ℕ × List ℕ). p.1) (pair_is (k, rest) x h.1) in
     (cc, subst AreBytes others (λ i. all (suc (suc i))))
@@ -111,7 +111,7 @@ content_takes part msg all e =
     let a = bind_ok (head_at part) (λ kind. whole (message_at kind.0 kind.1)) msg e in
     let h = head_takes part a.0 all a.1 in
     let t = message_takes a.0.0 a.0.1 (msg, []) h.1 (whole_ok (message_at a.0.0 a.0.1) msg a.2) in
-    (h.0 ∙ ap (λ (x : List ℕ). 1 ∷ x) (t.parts ∙ append-nil (kind_of msg.payload ∷ addressed msg)), t.within)
+    (h.0 ∙ ap (λ (x : List ℕ). 2 ∷ x) (t.parts ∙ append-nil (frame_kind msg.list msg.payload ∷ addressed msg)), t.within)
 
 pub frame_takes : (bytes : List ℕ) (x : Msg × ℕ) → AreBytes bytes → decoded bytes ≡ Ok x
     → FitsMessage x.0 × (x.1 ≡ length (frame_of x.0)) × ((rest : List ℕ) × (bytes ≡ frame_of x.0 ++ rest))
@@ -139,7 +139,7 @@ is_found bytes (Err e) all given = tt
 
 -- ---- what is written is read again
 
-part_again : (content rest : List ℕ) → 10 ≤ length content → 4 + length content ≤ 262144 → part_of ((word_bytes (4 + length content) ++ content) ++ rest) ≡ Ok content
+part_again : (content rest : List ℕ) → 10 ≤ length content → 4 + length content ≤ 1048576 → part_of ((word_bytes (4 + length content) ++ content) ++ rest) ≡ Ok content
 unfolding part_of first_word cut_of
 part_again content rest enough short =
     let n = 4 + length content in
@@ -147,7 +147,7 @@ part_again content rest enough short =
     let total : length bytes ≡ n + length rest = omega (arith, length-append (word_bytes n) (content ++ rest), length-append content rest, word-length n) in
     let t0 : ltb (length bytes) 4 ≡ false = le-ltb _ _ (omega arith) in
     let w : word_at bytes ≡ Ok (n, content ++ rest) = word_field.again n (content ++ rest) (omega arith) in
-    let t1 : ltb 262144 n ≡ false = le-ltb _ _ short in
+    let t1 : ltb 1048576 n ≡ false = le-ltb _ _ short in
     let t2 : ltb (length bytes) n ≡ false = le-ltb _ _ (omega arith) in
     let t3 : ltb n 14 ≡ false = le-ltb _ _ (omega arith) in
     let d : drop 4 bytes ≡ content ++ rest = drop_at (word_bytes n) (content ++ rest) 4 (word-length n) in
@@ -157,8 +157,8 @@ part_again content rest enough short =
 content_again : (msg : Msg) → FitsMessage msg → message_of (content_of msg) ≡ Ok msg
 unfolding message_of head_at kind_at byte_at
 content_again msg fits =
-    let number = kind_fits msg.payload in
-    let read : message_at (kind_of msg.payload) (addressed msg) ≡ Ok (msg, []) = ap (message_at (kind_of msg.payload)) (sym (append-nil (addressed msg))) ∙ message_again msg [] fits in
+    let number = kind_fits msg.list msg.payload in
+    let read : message_at (frame_kind msg.list msg.payload) (addressed msg) ≡ Ok (msg, []) = ap (message_at (frame_kind msg.list msg.payload)) (sym (append-nil (addressed msg))) ∙ message_again msg [] fits in
     rw (number, read) refl
 
 pub frame_again : (msg : Msg) (rest : List ℕ) → FitsMessage msg → decoded (frame_of msg ++ rest) ≡ Ok (msg, length (frame_of msg))
@@ -181,7 +181,7 @@ is_read bytes r given msg rest fits e =
 pub begun : (start first after content : List ℕ) → start ≡ [] → first ≡ start ++ word_bytes 0 → after ≡ first ++ content → after ≡ word_bytes 0 ++ content
 begun start first after content a b c = c ∙ ap (λ (t : List ℕ). t ++ content) (b ∙ ap (λ (t : List ℕ). t ++ word_bytes 0) a)
 
-pub room : (written : List ℕ) (msg : Msg) → FitsMessage msg → written ≡ word_bytes 0 ++ content_of msg → (4 ≤ length written) × (length written ≡ 4 + length (content_of msg)) × (length written ≤ 262144)
+pub room : (written : List ℕ) (msg : Msg) → FitsMessage msg → written ≡ word_bytes 0 ++ content_of msg → (4 ≤ length written) × (length written ≡ 4 + length (content_of msg)) × (length written ≤ 1048576)
 room written msg fits e =
     let total : length written ≡ 4 + length (content_of msg) = ap length e ∙ omega (arith, length-append (word_bytes 0) (content_of msg), word-length 0) in
     (omega arith, total, omega (arith, content_len msg fits, frame_bound msg fits))

@@ -1,5 +1,5 @@
 -- how a frame is read from the front of bytes, or the first fault in the order in which it is tested
-use Rattle.std.specs.Prelude.{◌≡◌, ℕ, ◌+◌, ◌-◌, List, length, take, drop, nat_lt, nat_le, ◌==◌, ◌&&◌, Result, Ok, Err, if◌then◌else◌}
+use Rattle.std.specs.Prelude.{◌≡◌, ℕ, ◌+◌, ◌-◌, Bool, List, length, take, drop, nat_lt, nat_le, ◌==◌, ◌&&◌, ◌||◌, Result, Ok, Err, if◌then◌else◌}
 use Rattle.xt_base.specs.declared.TheConstants.{FRAME}
 use Rattle.xt_messages.specs.declared.message.Msg.{Msg}
 use Rattle.xt_fields.specs.declared.fault.FieldErr.{FieldErr}
@@ -26,7 +26,7 @@ abbrev pub as_frame : {A : Type 0} → Result A FieldErr → Result A FrameErr
 as_frame (Ok x) = Ok x
 as_frame (Err e) = Err fault.Field
 
--- fewer than 4 bytes, a length above 262,144, fewer bytes than the length, a length below 14; else what comes after the length
+-- fewer than 4 bytes, a length above 1,048,576, fewer bytes than the length, a length below 14; else what comes after the length
 unfoldable pub cut_of : ℕ → List ℕ → Result (List ℕ) FrameErr
 cut_of len bytes =
     if nat_lt FRAME len then Err fault.TooLong
@@ -42,16 +42,20 @@ part_of bytes = do
   len ← first_word bytes
   cut_of len.0 bytes
 
+-- the numbers of kinds: 1 to 24, and 32 to 39
+abbrev pub is_kind : ℕ → Bool
+is_kind kind = (nat_le 1 kind && nat_le kind 24) || (nat_le 32 kind && nat_le kind 39)
+
 -- another version, and then another kind
 unfoldable pub kind_at : List ℕ → Result (ℕ × List ℕ) FrameErr
 kind_at bytes = do
   kind ← as_frame (byte_at bytes)
-  if nat_le 1 kind.0 && nat_le kind.0 24 then Ok kind else Err fault.Kind
+  if is_kind kind.0 then Ok kind else Err fault.Kind
 
 unfoldable pub head_at : List ℕ → Result (ℕ × List ℕ) FrameErr
 head_at bytes = do
   version ← as_frame (byte_at bytes)
-  if version.0 == 1 then kind_at version.1 else Err fault.Version
+  if version.0 == 2 then kind_at version.1 else Err fault.Version
 
 -- the fields are the rest, all of it
 abbrev pub whole : {A : Type 0} → Result (A × List ℕ) FieldErr → Result A FrameErr

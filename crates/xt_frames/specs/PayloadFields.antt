@@ -1,5 +1,5 @@
 -- the fields of each kind, read from the front of bytes
-use Rattle.std.specs.Prelude.{ℕ, Err, nat_lt, ◌==◌, if◌then◌else◌}
+use Rattle.std.specs.Prelude.{ℕ, Err, nat_lt, nat_le, ◌==◌, if◌then◌else◌}
 use Rattle.xt_base.specs.declared.TheConstants.{BODY}
 use Rattle.xt_base.specs.declared.ids.FileId.{FileId}
 use Rattle.xt_base.specs.declared.ids.Ballot.{Ballot}
@@ -8,11 +8,12 @@ use Rattle.xt_messages.specs.declared.message.Payload.{Payload}
 use Rattle.xt_messages.specs.declared.message.Payload.TheVariants as payload
 use Rattle.xt_messages.specs.declared.message.Msg.{Msg}
 use Rattle.xt_frames.specs.declared.reading.Versioned.{Versioned}
+use Rattle.xt_frames.specs.declared.reading.Said.{Said}
 use Rattle.xt_fields.specs.declared.fault.FieldErr.TheVariants as fault
-use Rattle.xt_fields.specs.Reading.{Field, ◌&◌, made}
-use Rattle.xt_fields.specs.BasicFields.{word_at, count_at, raw_at, octets_at}
+use Rattle.xt_fields.specs.Reading.{Field, ◌&◌, made, fit}
+use Rattle.xt_fields.specs.BasicFields.{word_at, long_at, count_at, raw_at, octets_at, tagged}
 use Rattle.xt_wire.specs.IdFields.{node_at, boot_at, file_at, ballot_at, epoch_at, stamp_at, lease_at, report_at}
-use Rattle.xt_wire.specs.FileFields.{capability_at, op_at, update_at, head_at}
+use Rattle.xt_wire.specs.FileFields.{version_at, location_at, capability_at, op_at, update_at, head_at}
 use Rattle.xt_frames.specs.ReplyFields.{reply_at}
 use Rattle.xt_wire.specs.MetaFields.{meta_req_at}
 use Rattle.xt_frames.specs.MetaAnswers.{meta_answer_at}
@@ -31,7 +32,7 @@ epoch_of_at = file_at & epoch_at
 unfoldable pub versioned_at : Field Versioned
 versioned_at =
     made (λ v. record { file = v.0.0.0; epoch = v.0.0.1; object = v.0.1; version = v.1 })
-    (epoch_of_at & word_at & stamp_at)
+    (epoch_of_at & long_at & stamp_at)
 
 unfoldable pub read_fields : Field Payload
 read_fields = made (λ f. payload.Read f.0 f.1) ballot_of_at
@@ -105,6 +106,27 @@ registry_reply_fields = made (λ f. payload.RegistryReply f.0 f.1) (count_at & r
 unfoldable pub stop_fields : Field Payload
 stop_fields = made payload.Stop (raw_at 32)
 
+unfoldable pub close_fields : Field Payload
+close_fields = made (λ f. payload.Close f.0 f.1) (file_at & version_at)
+
+unfoldable pub closed_fields : Field Payload
+closed_fields = made (λ f. payload.Closed f.0.0 f.0.1 f.1) (file_at & version_at & head_at)
+
+unfoldable pub install_fields : Field Payload
+install_fields = made (λ f. payload.Install f.0.0.0 f.0.0.1 f.0.1 f.1) (file_at & location_at & head_at & node_at)
+
+unfoldable pub installed_fields : Field Payload
+installed_fields = made (λ f. payload.Installed f.0 f.1) (file_at & version_at)
+
+unfoldable pub pull_fields : Field Payload
+pull_fields = made (λ f. payload.Pull f.0.0 f.0.1 f.1) (file_at & long_at & stamp_at)
+
+unfoldable pub pulled_fields : Field Payload
+pulled_fields = made (λ f. payload.Pulled f.0.0.0 f.0.0.1 f.0.1 f.1) (file_at & long_at & stamp_at & octets_at BODY)
+
+unfoldable pub wanted_fields : Field Payload
+wanted_fields = made payload.Wanted file_at
+
 unfoldable pub lease_arms : ℕ → Field Payload
 lease_arms kind bytes =
     if kind == 1 then read_fields bytes
@@ -141,13 +163,44 @@ service_arms kind bytes =
     else if kind == 24 then stop_fields bytes
     else Err fault.Unfit
 
+unfoldable pub change_arms : ℕ → Field Payload
+change_arms kind bytes =
+    if kind == 33 then close_fields bytes
+    else if kind == 34 then closed_fields bytes
+    else if kind == 35 then install_fields bytes
+    else if kind == 36 then installed_fields bytes
+    else if kind == 37 then pull_fields bytes
+    else if kind == 38 then pulled_fields bytes
+    else if kind == 39 then wanted_fields bytes
+    else Err fault.Unfit
+
+-- what replicas of one list say to each other
+unfoldable pub listed_arms : ℕ → Field Payload
+listed_arms kind bytes = if nat_lt kind 6 then lease_arms kind bytes else replica_arms kind bytes
+
 -- the fields of the kind of this number
 unfoldable pub payload_arms : ℕ → Field Payload
 payload_arms kind bytes =
     if nat_lt kind 6 then lease_arms kind bytes
     else if nat_lt kind 18 then replica_arms kind bytes
-    else service_arms kind bytes
+    else if nat_lt kind 33 then service_arms kind bytes
+    else change_arms kind bytes
+
+-- the version of a list that isn't the first one
+unfoldable pub later_list_at : Field ℕ
+later_list_at = fit (λ n. nat_le 2 n) version_at
+
+-- what is said by the first list, and by a later one
+unfoldable pub first_said_at : ℕ → Field Said
+first_said_at kind = made (λ p. record { list = 1; payload = p }) (payload_arms kind)
+
+unfoldable pub later_said_at : Field Said
+later_said_at = made (λ s. record { list = s.0; payload = s.1 }) (later_list_at & tagged listed_arms)
+
+unfoldable pub said_arms : ℕ → Field Said
+said_arms kind bytes = if kind == 32 then later_said_at bytes else first_said_at kind bytes
 
 -- the sender, the receiver and the fields
 unfoldable pub message_at : ℕ → Field Msg
-message_at kind = made (λ m. record { from = m.0.0; to = m.0.1; list = 1; payload = m.1 }) (node_at & node_at & payload_arms kind)
+message_at kind =
+    made (λ m. record { from = m.0.0; to = m.0.1; list = m.1.list; payload = m.1.payload }) (node_at & node_at & said_arms kind)

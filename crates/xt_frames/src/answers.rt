@@ -3,17 +3,18 @@ ghost use Rattle.xt_messages.specs.Limits.{FitsMetaAnswer, FitsNames, FitsRegist
 ghost use Rattle.xt_messages.specs.declared.meta.MetaAnswer.TheVariants.{Refused};
 ghost use Rattle.xt_fields.specs.Reading.{Gives, Tries, made};
 ghost use Rattle.xt_fields.specs.BasicFields.{byte_bytes, half_bytes, word_bytes, text_at, list_at};
-ghost use Rattle.xt_wire.specs.IdFields.{mark_bytes};
-ghost use Rattle.xt_wire.specs.FileFields.{capability_bytes};
-ghost use Rattle.xt_frames.specs.MetaAnswers.{refusal_bytes, refusal_arms, names_bytes, names_at, row_kind_bytes, row_kind_at, meta_answer_bytes, meta_answer_at, meta_answer_arms, names_answer_at, row_answer_at, granted_at};
+ghost use Rattle.xt_wire.specs.IdFields.{node_bytes, mark_bytes};
+ghost use Rattle.xt_wire.specs.FileFields.{location_bytes, capability_bytes};
+ghost use Rattle.xt_frames.specs.MetaAnswers.{refusal_bytes, refusal_arms, flag_bytes, flag_at, names_bytes, names_at, row_kind_bytes, row_kind_at, meta_answer_bytes, meta_answer_at, meta_answer_arms, names_answer_at, row_answer_at, granted_at, located_at};
 ghost use Rattle.xt_frames.specs.RegistryAnswers.{row_bytes, row_at, rows_bytes, rows_at, registry_answer_bytes, registry_answer_at, registry_answer_arms};
 
 use crate::reply::{ReadReplies, put_denied, put_long};
 use std::alloc::Global;
-use xt_base::{OutOfMemory, Seq, SizeMark};
+use xt_base::{NodeId, OutOfMemory, Seq, SizeMark};
 use xt_fields::{FieldErr, FieldReader, FieldWriter};
 use xt_messages::{
-    Capability, MetaAnswer, MetaRefusal, Names, RegistryAnswer, RegistryRow, RegistryRows, RowKind,
+    Capability, Location, MetaAnswer, MetaRefusal, Names, RegistryAnswer, RegistryRow,
+    RegistryRows, RowKind,
 };
 use xt_wire::{ReadFiles, ReadIds, WriteFiles, WriteIds};
 
@@ -56,6 +57,18 @@ fn row_kind(fields: &mut FieldReader<'_>) -> Result<RowKind, FieldErr>
     }
 }
 
+/// Whether something is so.
+#[tactic(auto, unfolding(crate::specs::MetaAnswers::flag_at, crate::specs::MetaAnswers::flag_arms))]
+fn flag(fields: &mut FieldReader<'_>) -> Result<bool, FieldErr>
+    ensures { Gives result fields.new (flag_at fields.old) }
+{
+    match fields.byte()? {
+        0 => Ok(false),
+        1 => Ok(true),
+        _ => Err(FieldErr::Unfit),
+    }
+}
+
 /// So many names.
 fn name_list(fields: &mut FieldReader<'_>, alloc: Global, count: u32) -> Result<Names, FieldErr>
     ensures { Gives result fields.new (list_at (text_at 255) count fields.old) }
@@ -69,7 +82,7 @@ fn name_list(fields: &mut FieldReader<'_>, alloc: Global, count: u32) -> Result<
 }
 
 /// The refusal of this number.
-#[tactic(auto, unfolding(crate::specs::MetaAnswers::refusal_arms, crate::specs::MetaAnswers::forbidden_at, crate::specs::MetaAnswers::too_few_at, crate::specs::MetaAnswers::report_denied_at))]
+#[tactic(auto, unfolding(crate::specs::MetaAnswers::refusal_arms, crate::specs::MetaAnswers::forbidden_at, crate::specs::MetaAnswers::too_few_at, crate::specs::MetaAnswers::report_denied_at, crate::specs::MetaAnswers::changing_at, crate::specs::MetaAnswers::unknown_osd_at))]
 fn refusal(fields: &mut FieldReader<'_>, number: u8) -> Result<MetaRefusal, FieldErr>
     ensures { Gives result fields.new (refusal_arms number fields.old) }
 {
@@ -90,6 +103,13 @@ fn refusal(fields: &mut FieldReader<'_>, number: u8) -> Result<MetaRefusal, Fiel
         }),
         11 => Ok(MetaRefusal::Denied {
             rule: fields.denial()?,
+        }),
+        16 => Ok(MetaRefusal::Changing {
+            version: fields.version()?,
+        }),
+        17 => Ok(MetaRefusal::NotReplicated),
+        18 => Ok(MetaRefusal::UnknownOsd {
+            node: fields.node()?,
         }),
         _ => Err(FieldErr::Unfit),
     }
@@ -117,6 +137,7 @@ fn meta_answer_arm(
         12 => names_answer(fields, alloc),
         13 => row_answer(fields),
         14 => granted(fields),
+        15 => located(fields),
         _ => refused(fields, number),
     }
 }
@@ -157,6 +178,16 @@ fn granted(fields: &mut FieldReader<'_>) -> Result<MetaAnswer, FieldErr>
     let capability = fields.capability()?;
     let mark = fields.mark()?;
     Ok(MetaAnswer::Granted { capability, mark })
+}
+
+/// Where a file is, and whether its list is being changed.
+#[tactic(auto, unfolding(crate::specs::MetaAnswers::located_at))]
+fn located(fields: &mut FieldReader<'_>) -> Result<MetaAnswer, FieldErr>
+    ensures { Gives result fields.new (located_at fields.old) }
+{
+    let location = fields.location()?;
+    let changing = flag(fields)?;
+    Ok(MetaAnswer::Located { location, changing })
 }
 
 /// So many rows.
@@ -313,6 +344,22 @@ fn put_small(fields: &mut FieldWriter, number: u8, value: u8) -> Result<(), OutO
     fields.byte(value)
 }
 
+/// The number of the refusal of a change that runs, and the version to come.
+fn put_changing(fields: &mut FieldWriter, version: u32) -> Result<(), OutOfMemory>
+    ensures { OnOk result (fields.new ≡ fields.old ++ (byte_bytes 16 ++ word_bytes version)) }
+{
+    fields.byte(16)?;
+    fields.word(version)
+}
+
+/// The number of the refusal of a list, and the node that isn't there.
+fn put_unknown_osd(fields: &mut FieldWriter, node: NodeId) -> Result<(), OutOfMemory>
+    ensures { OnOk result (fields.new ≡ fields.old ++ (byte_bytes 18 ++ node_bytes node)) }
+{
+    fields.byte(18)?;
+    fields.node(node)
+}
+
 /// A refusal.
 fn put_refusal(fields: &mut FieldWriter, refusal: MetaRefusal) -> Result<(), OutOfMemory>
     ensures { OnOk result (fields.new ≡ fields.old ++ refusal_bytes refusal) }
@@ -329,6 +376,9 @@ fn put_refusal(fields: &mut FieldWriter, refusal: MetaRefusal) -> Result<(), Out
         MetaRefusal::NameBad => fields.byte(9),
         MetaRefusal::TooFew { have } => put_small(fields, 10, have),
         MetaRefusal::Denied { rule } => put_denied(fields, 11, rule),
+        MetaRefusal::Changing { version } => put_changing(fields, version),
+        MetaRefusal::NotReplicated => fields.byte(17),
+        MetaRefusal::UnknownOsd { node } => put_unknown_osd(fields, node),
     }
 }
 
@@ -374,6 +424,20 @@ fn put_granted(
     fields.byte(14)?;
     fields.capability(capability)?;
     fields.mark(mark)
+}
+
+/// Where a file is, and whether its list is being changed.
+fn put_located(
+    fields: &mut FieldWriter,
+    location: Location,
+    changing: bool,
+) -> Result<(), OutOfMemory>
+    ensures { OnOk result (fields.new ≡ fields.old
+        ++ (byte_bytes 15 ++ location_bytes location ++ flag_bytes changing)) }
+{
+    fields.byte(15)?;
+    fields.location(location)?;
+    fields.byte(if changing { 1 } else { 0 })
 }
 
 /// The row.
@@ -422,6 +486,7 @@ impl WriteAnswers for FieldWriter {
                 mark,
             } => put_row_answer(self, *kind, *owner, *group, *mode, *mark),
             MetaAnswer::Granted { capability, mark } => put_granted(self, capability, *mark),
+            MetaAnswer::Located { location, changing } => put_located(self, *location, *changing),
             MetaAnswer::Refused { refusal } => put_refusal(self, *refusal),
         }
     }

@@ -2,7 +2,7 @@ ghost use Rattle.std.specs.Prelude.{◌≡◌, ℕ, ◌++◌, List, length, IfOk
 ghost use Rattle.xt_messages.specs.Limits.{FitsMessage};
 ghost use Rattle.xt_messages.specs.declared.message.Msg.{Msg};
 ghost use Rattle.xt_frames.specs.Frames.{frame_of};
-ghost use Rattle.xt_frames.specs.Decoding.{Gives, part_of, head_at, message_of, decoded};
+ghost use Rattle.xt_frames.specs.Decoding.{Gives, is_kind, part_of, head_at, message_of, decoded};
 
 use crate::fault::FrameErr;
 use crate::reading::message;
@@ -12,13 +12,10 @@ use xt_fields::FieldReader;
 use xt_messages::Msg;
 
 /// The version of frames.
-pub(crate) const VERSION: u8 = 1;
+pub(crate) const VERSION: u8 = 2;
 
 /// The shortest frame could have no fields.
 const SHORTEST: usize = 14;
-
-/// How many kinds there are.
-const KINDS: u8 = 24;
 
 /// What comes after the length of the frame at the front.
 #[tactic(auto, unfolding(crate::specs::Decoding::part_of, crate::specs::Decoding::first_word, crate::specs::Decoding::cut_of))]
@@ -41,6 +38,13 @@ fn part_of(bytes: &[u8]) -> Result<&[u8], FrameErr>
     Ok(&bytes[4..len])
 }
 
+/// Whether a kind has this number.
+fn is_kind(kind: u8) -> bool
+    ensures { result ≡ is_kind kind }
+{
+    (1 <= kind && kind <= 24) || (32 <= kind && kind <= 39)
+}
+
 /// The kind, after the version.
 #[tactic(auto, unfolding(crate::specs::Decoding::head_at, crate::specs::Decoding::kind_at))]
 fn kind_of(reader: &mut FieldReader<'_>) -> Result<u8, FrameErr>
@@ -51,7 +55,7 @@ fn kind_of(reader: &mut FieldReader<'_>) -> Result<u8, FrameErr>
         return Err(FrameErr::Version);
     }
     let kind = reader.byte()?;
-    if kind < 1 || KINDS < kind {
+    if !is_kind(kind) {
         return Err(FrameErr::Kind);
     }
     Ok(kind)

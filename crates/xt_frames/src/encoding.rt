@@ -6,7 +6,7 @@ ghost use Rattle.xt_fields.specs.BasicFields.{word_bytes};
 ghost use Rattle.xt_frames.specs.Frames.{content_of, frame_of};
 
 use crate::decoding::VERSION;
-use crate::writing::{kind, put_payload};
+use crate::writing::{frame_kind, put_fields};
 use std::alloc::Global;
 use xt_base::{Octets, OutOfMemory};
 use xt_fields::FieldWriter;
@@ -22,10 +22,10 @@ fn put_content(writer: &mut FieldWriter, msg: &Msg) -> Result<(), OutOfMemory>
     ensures { OnOk result (writer.new ≡ writer.old ++ content_of msg.now) }
 {
     writer.byte(VERSION)?;
-    writer.byte(kind(&msg.payload))?;
+    writer.byte(frame_kind(msg.list, &msg.payload))?;
     writer.node(msg.from)?;
     writer.node(msg.to)?;
-    put_payload(writer, &msg.payload)
+    put_fields(writer, msg.list, &msg.payload)
 }
 
 /// The one frame of a message within its limits.
@@ -40,5 +40,6 @@ pub fn encode(alloc: Global, msg: &Msg) -> Result<Octets, OutOfMemory>
     writer.word(0)?;
     put_content(&mut writer, msg)?;
     writer.set_length();
-    Ok(writer.finish())
+    let made = writer.finish()?;
+    Ok(made)
 }

@@ -1,6 +1,6 @@
 ghost use Rattle.std.specs.Prelude.{◌≡◌};
 ghost use Rattle.xt_fields.specs.Reading.{Gives};
-ghost use Rattle.xt_frames.specs.PayloadFields.{ballot_of_at, epoch_of_at, versioned_at, read_fields, promise_fields, write_fields, accepted_fields, outrun_fields, gather_fields, status_fields, fetch_fields, object_fields, stage_fields, staged_fields, head_fields, update_fields, ack_fields, refused_fields, behind_fields, missing_fields, ask_fields, reply_fields, meta_fields, meta_reply_fields, registry_fields, registry_reply_fields, stop_fields, lease_arms, replica_arms, service_arms, payload_arms, message_at};
+ghost use Rattle.xt_frames.specs.PayloadFields.{ballot_of_at, epoch_of_at, versioned_at, read_fields, promise_fields, write_fields, accepted_fields, outrun_fields, gather_fields, status_fields, fetch_fields, object_fields, stage_fields, staged_fields, head_fields, update_fields, ack_fields, refused_fields, behind_fields, missing_fields, ask_fields, reply_fields, meta_fields, meta_reply_fields, registry_fields, registry_reply_fields, stop_fields, lease_arms, replica_arms, close_fields, closed_fields, install_fields, installed_fields, pull_fields, pulled_fields, wanted_fields, service_arms, change_arms, listed_arms, payload_arms, later_list_at, first_said_at, later_said_at, said_arms, message_at};
 
 use crate::answers::ReadAnswers;
 use crate::reply::ReadReplies;
@@ -13,8 +13,11 @@ use xt_wire::{ReadFiles, ReadIds, ReadRequests};
 /// The longest `bytes` field, in bytes.
 const BODY_LIMIT: u32 = BODY as u32;
 
-/// The version of a file's list of members, which no frame carries.
-const FIRST_LIST: u32 = 1;
+/// The version of a file's list of members where the frame doesn't say it.
+pub(crate) const FIRST_LIST: u32 = 1;
+
+/// The number of the kind that carries the version of a list.
+pub(crate) const LATER_LIST: u8 = 32;
 
 #[tactic(auto, unfolding(crate::specs::PayloadFields::lease_arms))]
 fn lease_payload(reader: &mut FieldReader<'_>, kind: u8) -> Result<Payload, FieldErr>
@@ -75,6 +78,42 @@ fn service_payload(
     }
 }
 
+#[tactic(auto, unfolding(crate::specs::PayloadFields::change_arms))]
+fn change_payload(
+    reader: &mut FieldReader<'_>,
+    alloc: Global,
+    kind: u8,
+) -> Result<Payload, FieldErr>
+    ensures { Gives result reader.new (change_arms kind reader.old) }
+{
+    match kind {
+        33 => read_close(reader),
+        34 => read_closed(reader, alloc),
+        35 => read_install(reader, alloc),
+        36 => read_installed(reader),
+        37 => read_pull(reader),
+        38 => read_pulled(reader, alloc),
+        39 => read_wanted(reader),
+        _ => Err(FieldErr::Unfit),
+    }
+}
+
+/// What replicas of one list say to each other.
+#[tactic(auto, unfolding(crate::specs::PayloadFields::listed_arms))]
+fn listed_payload(
+    reader: &mut FieldReader<'_>,
+    alloc: Global,
+    kind: u8,
+) -> Result<Payload, FieldErr>
+    ensures { Gives result reader.new (listed_arms kind reader.old) }
+{
+    if kind < 6 {
+        lease_payload(reader, kind)
+    } else {
+        replica_payload(reader, alloc, kind)
+    }
+}
+
 /// The fields of the kind of this number.
 #[tactic(auto, unfolding(crate::specs::PayloadFields::payload_arms))]
 fn payload(reader: &mut FieldReader<'_>, alloc: Global, kind: u8) -> Result<Payload, FieldErr>
@@ -84,8 +123,63 @@ fn payload(reader: &mut FieldReader<'_>, alloc: Global, kind: u8) -> Result<Payl
         lease_payload(reader, kind)
     } else if kind < 18 {
         replica_payload(reader, alloc, kind)
-    } else {
+    } else if kind < 33 {
         service_payload(reader, alloc, kind)
+    } else {
+        change_payload(reader, alloc, kind)
+    }
+}
+
+/// What a message says, and by which version of the file's list.
+struct Said {
+    list: u32,
+    payload: Payload,
+}
+
+/// The version of a list that isn't the first one.
+#[tactic(auto, unfolding(crate::specs::PayloadFields::later_list_at))]
+fn later_list(reader: &mut FieldReader<'_>) -> Result<u32, FieldErr>
+    ensures { Gives result reader.new (later_list_at reader.old) }
+{
+    let list = reader.version()?;
+    if list < 2 {
+        return Err(FieldErr::Unfit);
+    }
+    Ok(list)
+}
+
+/// What is said by a later list.
+#[tactic(auto, unfolding(crate::specs::PayloadFields::later_said_at))]
+fn later_said(reader: &mut FieldReader<'_>, alloc: Global) -> Result<Said, FieldErr>
+    ensures { Gives result reader.new (later_said_at reader.old) }
+{
+    let list = later_list(reader)?;
+    let kind = reader.byte()?;
+    let payload = listed_payload(reader, alloc, kind)?;
+    Ok(Said { list, payload })
+}
+
+/// What is said by the first list.
+#[tactic(auto, unfolding(crate::specs::PayloadFields::first_said_at))]
+fn first_said(reader: &mut FieldReader<'_>, alloc: Global, kind: u8) -> Result<Said, FieldErr>
+    ensures { Gives result reader.new (first_said_at kind reader.old) }
+{
+    let payload = payload(reader, alloc, kind)?;
+    Ok(Said {
+        list: FIRST_LIST,
+        payload,
+    })
+}
+
+/// What comes after the nodes in a frame of this kind.
+#[tactic(auto, unfolding(crate::specs::PayloadFields::said_arms))]
+fn either_said(reader: &mut FieldReader<'_>, alloc: Global, kind: u8) -> Result<Said, FieldErr>
+    ensures { Gives result reader.new (said_arms kind reader.old) }
+{
+    if kind == LATER_LIST {
+        later_said(reader, alloc)
+    } else {
+        first_said(reader, alloc, kind)
     }
 }
 
@@ -100,11 +194,11 @@ pub(crate) fn message(
 {
     let from = reader.node()?;
     let to = reader.node()?;
-    let payload = payload(reader, alloc, kind)?;
+    let Said { list, payload } = either_said(reader, alloc, kind)?;
     Ok(Msg {
         from,
         to,
-        list: FIRST_LIST,
+        list,
         payload,
     })
 }
@@ -470,4 +564,97 @@ fn read_stop(reader: &mut FieldReader<'_>) -> Result<Payload, FieldErr>
 {
     let tag = reader.tag()?;
     Ok(Payload::Stop { tag })
+}
+
+/// The end of a version of a list.
+#[tactic(auto, unfolding(crate::specs::PayloadFields::close_fields))]
+fn read_close(reader: &mut FieldReader<'_>) -> Result<Payload, FieldErr>
+    ensures { Gives result reader.new (close_fields reader.old) }
+{
+    let file = reader.file()?;
+    let version = reader.version()?;
+    Ok(Payload::Close { file, version })
+}
+
+/// That a version is closed.
+#[tactic(auto, unfolding(crate::specs::PayloadFields::closed_fields))]
+fn read_closed(reader: &mut FieldReader<'_>, alloc: Global) -> Result<Payload, FieldErr>
+    ensures { Gives result reader.new (closed_fields reader.old) }
+{
+    let file = reader.file()?;
+    let version = reader.version()?;
+    let head = reader.head(alloc)?;
+    Ok(Payload::Closed {
+        file,
+        version,
+        head,
+    })
+}
+
+/// A list that is to be taken.
+#[tactic(auto, unfolding(crate::specs::PayloadFields::install_fields))]
+fn read_install(reader: &mut FieldReader<'_>, alloc: Global) -> Result<Payload, FieldErr>
+    ensures { Gives result reader.new (install_fields reader.old) }
+{
+    let file = reader.file()?;
+    let location = reader.location()?;
+    let head = reader.head(alloc)?;
+    let source = reader.node()?;
+    Ok(Payload::Install {
+        file,
+        location,
+        head,
+        source,
+    })
+}
+
+/// That a list is taken.
+#[tactic(auto, unfolding(crate::specs::PayloadFields::installed_fields))]
+fn read_installed(reader: &mut FieldReader<'_>) -> Result<Payload, FieldErr>
+    ensures { Gives result reader.new (installed_fields reader.old) }
+{
+    let file = reader.file()?;
+    let version = reader.version()?;
+    Ok(Payload::Installed { file, version })
+}
+
+/// A body that is to be sent.
+#[tactic(auto, unfolding(crate::specs::PayloadFields::pull_fields))]
+fn read_pull(reader: &mut FieldReader<'_>) -> Result<Payload, FieldErr>
+    ensures { Gives result reader.new (pull_fields reader.old) }
+{
+    let file = reader.file()?;
+    let object = reader.object()?;
+    let version = reader.stamp()?;
+    Ok(Payload::Pull {
+        file,
+        object,
+        version,
+    })
+}
+
+/// A body that is sent.
+#[tactic(auto, unfolding(crate::specs::PayloadFields::pulled_fields))]
+fn read_pulled(reader: &mut FieldReader<'_>, alloc: Global) -> Result<Payload, FieldErr>
+    ensures { Gives result reader.new (pulled_fields reader.old) }
+{
+    let file = reader.file()?;
+    let object = reader.object()?;
+    let version = reader.stamp()?;
+    let bytes = reader.octets(alloc, BODY_LIMIT)?;
+    Ok(Payload::Pulled {
+        file,
+        object,
+        version,
+        bytes,
+    })
+}
+
+/// That a member can go on.
+#[tactic(auto, unfolding(crate::specs::PayloadFields::wanted_fields))]
+fn read_wanted(reader: &mut FieldReader<'_>) -> Result<Payload, FieldErr>
+    ensures { Gives result reader.new (wanted_fields reader.old) }
+{
+    let file = reader.file()?;
+    Ok(Payload::Wanted { file })
 }

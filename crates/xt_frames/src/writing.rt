@@ -1,27 +1,28 @@
 ghost use Rattle.std.specs.Prelude.{◌≡◌, ◌<◌, ◌^◌, ◌++◌, length, OnOk};
-ghost use Rattle.xt_messages.specs.Limits.{IsObject, FitsHead, FitsUpdate, FitsOp, FitsReply, FitsMetaReq, FitsMetaAnswer, FitsRegistryReq, FitsRegistryAnswer, FitsPayload};
+ghost use Rattle.xt_messages.specs.Limits.{FitsHead, FitsUpdate, FitsOp, FitsReply, FitsMetaReq, FitsMetaAnswer, FitsRegistryReq, FitsRegistryAnswer, FitsPayload};
 ghost use Rattle.xt_fields.specs.BasicFields.{byte_bytes, word_bytes, long_bytes, octets_bytes};
 ghost use Rattle.xt_wire.specs.IdFields.{node_bytes, boot_bytes, file_bytes, ballot_bytes, epoch_bytes, stamp_bytes, lease_bytes, report_bytes};
-ghost use Rattle.xt_wire.specs.FileFields.{capability_bytes, op_bytes, update_bytes, head_bytes};
+ghost use Rattle.xt_wire.specs.FileFields.{location_bytes, capability_bytes, op_bytes, update_bytes, head_bytes};
 ghost use Rattle.xt_frames.specs.ReplyFields.{reply_bytes};
 ghost use Rattle.xt_wire.specs.MetaFields.{meta_req_bytes};
 ghost use Rattle.xt_frames.specs.MetaAnswers.{meta_answer_bytes};
 ghost use Rattle.xt_wire.specs.RegistryFields.{registry_req_bytes};
 ghost use Rattle.xt_frames.specs.RegistryAnswers.{registry_answer_bytes};
-ghost use Rattle.xt_frames.specs.Frames.{kind_of, payload_bytes};
+ghost use Rattle.xt_frames.specs.Frames.{kind_of, payload_bytes, frame_kind, frame_fields};
 
 use crate::answers::WriteAnswers;
+use crate::reading::{FIRST_LIST, LATER_LIST};
 use crate::reply::WriteReplies;
-use xt_base::{Ballot, Boot, Epoch, FileId, Lease, OutOfMemory, Stamp};
+use xt_base::{Ballot, Boot, Epoch, FileId, Lease, NodeId, OutOfMemory, Stamp};
 use xt_fields::FieldWriter;
 use xt_messages::{
-    Capability, FileHead, MetaAnswer, MetaReq, Op, Payload, RegistryAnswer, RegistryReq, Reply,
-    Update,
+    Capability, FileHead, Location, MetaAnswer, MetaReq, Op, Payload, RegistryAnswer, RegistryReq,
+    Reply, Update,
 };
 use xt_wire::{WriteFiles, WriteIds, WriteRequests};
 
 /// The number of a payload's kind.
-pub(crate) fn kind(payload: &Payload) -> u8
+fn kind(payload: &Payload) -> u8
     ensures { result ≡ kind_of payload.now }
 {
     match payload {
@@ -49,11 +50,46 @@ pub(crate) fn kind(payload: &Payload) -> u8
         Payload::Registry { .. } => 22,
         Payload::RegistryReply { .. } => 23,
         Payload::Stop { .. } => 24,
+        Payload::Close { .. } => 33,
+        Payload::Closed { .. } => 34,
+        Payload::Install { .. } => 35,
+        Payload::Installed { .. } => 36,
+        Payload::Pull { .. } => 37,
+        Payload::Pulled { .. } => 38,
+        Payload::Wanted { .. } => 39,
     }
 }
 
+/// The number of a frame's kind.
+pub(crate) fn frame_kind(list: u32, payload: &Payload) -> u8
+    ensures { result ≡ frame_kind list payload.now }
+{
+    if list == FIRST_LIST {
+        kind(payload)
+    } else {
+        LATER_LIST
+    }
+}
+
+/// The fields of a frame.
+pub(crate) fn put_fields(
+    writer: &mut FieldWriter,
+    list: u32,
+    payload: &Payload,
+) -> Result<(), OutOfMemory>
+    requires { FitsPayload payload.now }
+    ensures { OnOk result (writer.new ≡ writer.old ++ frame_fields list payload.now) }
+{
+    if list == FIRST_LIST {
+        return put_payload(writer, payload);
+    }
+    writer.word(list)?;
+    writer.byte(kind(payload))?;
+    put_payload(writer, payload)
+}
+
 /// The fields of a payload.
-pub(crate) fn put_payload(writer: &mut FieldWriter, payload: &Payload) -> Result<(), OutOfMemory>
+fn put_payload(writer: &mut FieldWriter, payload: &Payload) -> Result<(), OutOfMemory>
     requires { FitsPayload payload.now }
     ensures { OnOk result (writer.new ≡ writer.old ++ payload_bytes payload.now) }
 {
@@ -137,6 +173,32 @@ pub(crate) fn put_payload(writer: &mut FieldWriter, payload: &Payload) -> Result
         Payload::Registry { number, request } => put_registry(writer, *number, request),
         Payload::RegistryReply { number, answer } => put_registry_reply(writer, *number, answer),
         Payload::Stop { tag } => put_stop(writer, *tag),
+        Payload::Close { file, version } | Payload::Installed { file, version } => {
+            put_list(writer, *file, *version)
+        }
+        Payload::Closed {
+            file,
+            version,
+            head,
+        } => put_closed(writer, *file, *version, head),
+        Payload::Install {
+            file,
+            location,
+            head,
+            source,
+        } => put_install(writer, *file, *location, head, *source),
+        Payload::Pull {
+            file,
+            object,
+            version,
+        } => put_pull(writer, *file, *object, *version),
+        Payload::Pulled {
+            file,
+            object,
+            version,
+            bytes,
+        } => put_pulled(writer, *file, *object, *version, bytes.as_slice()),
+        Payload::Wanted { file } => writer.file(*file),
     }
 }
 
@@ -237,9 +299,8 @@ fn put_version(
     object: u64,
     version: Stamp,
 ) -> Result<(), OutOfMemory>
-    requires { IsObject object }
     ensures { OnOk result (writer.new ≡ writer.old
-        ++ (file_bytes file ++ epoch_bytes epoch ++ word_bytes object ++ stamp_bytes version)) }
+        ++ (file_bytes file ++ epoch_bytes epoch ++ long_bytes object ++ stamp_bytes version)) }
 {
     put_epoch(writer, file, epoch)?;
     writer.object(object)?;
@@ -255,10 +316,9 @@ fn put_bytes(
     version: Stamp,
     bytes: &[u8],
 ) -> Result<(), OutOfMemory>
-    requires object_fits { IsObject object }
-    requires bytes_fits { length bytes.now < 2 ^ 32 }
+    requires { length bytes.now < 2 ^ 32 }
     ensures { OnOk result (writer.new ≡ writer.old
-        ++ (file_bytes file ++ epoch_bytes epoch ++ word_bytes object ++ stamp_bytes version
+        ++ (file_bytes file ++ epoch_bytes epoch ++ long_bytes object ++ stamp_bytes version
         ++ octets_bytes bytes.now)) }
 {
     put_version(writer, file, epoch, object, version)?;
@@ -409,4 +469,77 @@ fn put_stop(writer: &mut FieldWriter, tag: [u8; 32]) -> Result<(), OutOfMemory>
     ensures { OnOk result (writer.new ≡ writer.old ++ tag) }
 {
     writer.tag(tag)
+}
+
+/// A file and the version of its list, which is to be closed or is installed.
+fn put_list(writer: &mut FieldWriter, file: FileId, version: u32) -> Result<(), OutOfMemory>
+    ensures { OnOk result (writer.new ≡ writer.old ++ (file_bytes file ++ word_bytes version)) }
+{
+    writer.file(file)?;
+    writer.word(version)
+}
+
+/// That a version is closed.
+fn put_closed(
+    writer: &mut FieldWriter,
+    file: FileId,
+    version: u32,
+    head: &FileHead,
+) -> Result<(), OutOfMemory>
+    requires { FitsHead head.now }
+    ensures { OnOk result (writer.new ≡ writer.old
+        ++ (file_bytes file ++ word_bytes version ++ head_bytes head.now)) }
+{
+    put_list(writer, file, version)?;
+    writer.head(head)
+}
+
+/// A list that is to be taken.
+fn put_install(
+    writer: &mut FieldWriter,
+    file: FileId,
+    location: Location,
+    head: &FileHead,
+    source: NodeId,
+) -> Result<(), OutOfMemory>
+    requires { FitsHead head.now }
+    ensures { OnOk result (writer.new ≡ writer.old
+        ++ (file_bytes file ++ location_bytes location ++ head_bytes head.now
+        ++ node_bytes source)) }
+{
+    writer.file(file)?;
+    writer.location(location)?;
+    writer.head(head)?;
+    writer.node(source)
+}
+
+/// A body that is to be sent.
+fn put_pull(
+    writer: &mut FieldWriter,
+    file: FileId,
+    object: u64,
+    version: Stamp,
+) -> Result<(), OutOfMemory>
+    ensures { OnOk result (writer.new ≡ writer.old
+        ++ (file_bytes file ++ long_bytes object ++ stamp_bytes version)) }
+{
+    writer.file(file)?;
+    writer.object(object)?;
+    writer.stamp(version)
+}
+
+/// A body that is sent.
+fn put_pulled(
+    writer: &mut FieldWriter,
+    file: FileId,
+    object: u64,
+    version: Stamp,
+    bytes: &[u8],
+) -> Result<(), OutOfMemory>
+    requires { length bytes.now < 2 ^ 32 }
+    ensures { OnOk result (writer.new ≡ writer.old
+        ++ (file_bytes file ++ long_bytes object ++ stamp_bytes version ++ octets_bytes bytes.now)) }
+{
+    put_pull(writer, file, object, version)?;
+    writer.octets(bytes)
 }

@@ -1,5 +1,5 @@
 -- the length of a message's frame, in bytes
-use Rattle.std.specs.Prelude.{ℕ, ◌+◌, ◌*◌, Option, Some, None, List, length, sum_by}
+use Rattle.std.specs.Prelude.{ℕ, ◌+◌, ◌*◌, ◌==◌, if◌then◌else◌, Option, Some, None, List, length, sum_by}
 use Rattle.xt_base.specs.declared.ids.Lease.{Lease}
 use Rattle.xt_messages.specs.declared.file.Location.{Location}
 use Rattle.xt_messages.specs.declared.file.Capability.{Capability}
@@ -46,14 +46,14 @@ capability_length capability = 73 + location_length capability.location
 
 -- the promised epoch, the stamp, the last id, the mark, the versions and the sessions
 abbrev pub head_length : FileHead → ℕ
-head_length head = 68 + 24 * length head.versions + 20 * length head.sessions
+head_length head = 68 + 28 * length head.versions + 20 * length head.sessions
 
 abbrev pub update_length : Update → ℕ
-update_length update = 56 + octets_length update.body
+update_length update = 64 + octets_length update.body
 
 abbrev pub op_length : Op → ℕ
-op_length (op.Read object at len) = 13
-op_length (op.Write object at bytes) = 9 + octets_length bytes
+op_length (op.Read object at len) = 17
+op_length (op.Write object at bytes) = 13 + octets_length bytes
 op_length (op.Truncate size) = 9
 
 abbrev pub reply_length : Reply → ℕ
@@ -78,11 +78,15 @@ meta_req_length (asked.Stat path) = 1 + text_length path
 meta_req_length (asked.Chmod path mode) = 3 + text_length path
 meta_req_length (asked.Grant path want) = 2 + text_length path
 meta_req_length (asked.Report capability mark) = 17 + capability_length capability
+meta_req_length (asked.Change path nodes) = 2 + text_length path + 4 * length nodes
+meta_req_length (asked.Locate path) = 1 + text_length path
 
 abbrev pub meta_refusal_length : MetaRefusal → ℕ
 meta_refusal_length (refusal.Forbidden rule) = 2
 meta_refusal_length (refusal.TooFew have) = 2
 meta_refusal_length (refusal.Denied rule) = 2
+meta_refusal_length (refusal.Changing version) = 5
+meta_refusal_length (refusal.UnknownOsd node) = 5
 meta_refusal_length _ = 1
 
 abbrev pub meta_answer_length : MetaAnswer → ℕ
@@ -91,6 +95,7 @@ meta_answer_length (answer.Refused why) = meta_refusal_length why
 meta_answer_length (answer.Names names) = 5 + sum_by text_length names
 meta_answer_length (answer.Row kind owner group mode mark) = 28
 meta_answer_length (answer.Granted capability mark) = 17 + capability_length capability
+meta_answer_length (answer.Located location changing) = 2 + location_length location
 
 abbrev pub registry_req_length : RegistryReq → ℕ
 registry_req_length (registry.Set node kind address expected) = 14 + text_length address
@@ -118,16 +123,16 @@ payload_length (payload.Accepted file ballot boot) = 52
 payload_length (payload.Outrun file ballot seen) = 64
 payload_length (payload.Gather file epoch) = 36
 payload_length (payload.Status file epoch head) = 36 + head_length head
-payload_length (payload.Fetch file epoch object version) = 60
-payload_length (payload.Object file epoch object version bytes) = 60 + octets_length bytes
-payload_length (payload.Stage file epoch object version bytes) = 60 + octets_length bytes
-payload_length (payload.Staged file epoch object version) = 60
+payload_length (payload.Fetch file epoch object version) = 64
+payload_length (payload.Object file epoch object version bytes) = 64 + octets_length bytes
+payload_length (payload.Stage file epoch object version bytes) = 64 + octets_length bytes
+payload_length (payload.Staged file epoch object version) = 64
 payload_length (payload.Head file epoch head) = 36 + head_length head
 payload_length (payload.Update file update) = 24 + update_length update
 payload_length (payload.Ack file stamp) = 44
 payload_length (payload.Refused file epoch promised) = 48
 payload_length (payload.Behind file epoch stamp) = 56
-payload_length (payload.Missing file epoch object version) = 60
+payload_length (payload.Missing file epoch object version) = 64
 payload_length (payload.Ask number capability operation) = 8 + capability_length capability + op_length operation
 payload_length (payload.Reply number file r) = 32 + reply_length r
 payload_length (payload.Meta number user group request) = 16 + meta_req_length request
@@ -135,7 +140,18 @@ payload_length (payload.MetaReply number a) = 8 + meta_answer_length a
 payload_length (payload.Registry number request) = 8 + registry_req_length request
 payload_length (payload.RegistryReply number a) = 8 + registry_answer_length a
 payload_length (payload.Stop tag) = 32
+payload_length (payload.Close file version) = 28
+payload_length (payload.Closed file version head) = 28 + head_length head
+payload_length (payload.Install file location head source) = 28 + location_length location + head_length head
+payload_length (payload.Installed file version) = 28
+payload_length (payload.Pull file object version) = 52
+payload_length (payload.Pulled file object version bytes) = 52 + octets_length bytes
+payload_length (payload.Wanted file) = 24
 
--- the length, the version, the kind, the sender and the receiver, and then the fields
+-- the version of a list above the first one, and the kind once more
+abbrev pub list_length : ℕ → ℕ
+list_length list = if list == 1 then 0 else 5
+
+-- the length, the version, the kind, the sender and the receiver, and then the list, where it isn't the first one, and the fields
 abbrev pub frame_length : Msg → ℕ
-frame_length message = 14 + payload_length message.payload
+frame_length message = 14 + list_length message.list + payload_length message.payload

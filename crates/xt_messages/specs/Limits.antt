@@ -1,5 +1,5 @@
 -- what a message or a record may hold: the limits of the fields
-use Rattle.std.specs.Prelude.{ℕ, ◌<◌, ◌≤◌, ◌^◌, ◌%◌, ◌-◌, ◌≡◌, ◌⊎◌, List, [], ◌∷◌, length, map, IfSome, Bool, true, nat_lt, nat_le, ◌==◌, ◌&&◌, ◌||◌, IsTrue}
+use Rattle.std.specs.Prelude.{ℕ, ◌<◌, ◌≤◌, ◌^◌, ◌%◌, ◌-◌, ◌≡◌, ◌⊎◌, List, [], ◌∷◌, length, map, IfSome, Bool, true, false, nat_lt, nat_le, ◌==◌, ◌&&◌, ◌||◌, IsTrue}
 use Rattle.std.specs.List.{AllByRecursion}
 use Rattle.xt_base.specs.FieldLimits.{AreBytes, IsCount, FitsBytes, FitsPath, FitsName, FitsTag}
 use Rattle.xt_base.specs.MemberList.{are_members}
@@ -100,8 +100,12 @@ pub record FitsMembers (nodes : List NodeId) : Type 0 where
   pub different : IsTrue (are_members nodes)
   pub each : AllByRecursion FitsNode nodes
 
+-- the version of a file's list
+abbrev pub IsVersion : ℕ → Type 0
+IsVersion version = version < 2 ^ 31
+
 pub record FitsLocation (location : Location) : Type 0 where
-  pub changes : location.version < 2 ^ 31
+  pub changes : IsVersion location.version
   pub size : FitsStripe location.stripe
   pub nodes : FitsMembers location.members
 
@@ -117,11 +121,11 @@ pub record FitsCapability (capability : Capability) : Type 0 where
 
 -- an object that is meant, by its number
 abbrev pub IsObject : ℕ → Type 0
-IsObject object = object < 2 ^ 32
+IsObject object = object < 2 ^ 64
 
--- an object below the last number of 32 bits, which is sent for none; or none
+-- an object below the last number of 64 bits, which stands for none; or none
 abbrev pub IsObjectOrNone : ℕ → Type 0
-IsObjectOrNone object = (object < 2 ^ 32 - 1) ⊎ (object ≡ NO_OBJECT)
+IsObjectOrNone object = (object < 2 ^ 64 - 1) ⊎ (object ≡ NO_OBJECT)
 
 abbrev pub FitsOp : Op → Type 0
 FitsOp (op.Read object at len) = IsObject object × (at < 2 ^ 32) × (1 ≤ len) × (len ≤ BODY)
@@ -153,7 +157,7 @@ pub record FitsSession (session : Session) : Type 0 where
   pub operation : IsCount session.number
   pub writes : IsCount session.count
 
--- at most 4,096 versions, rising by object
+-- at most 16,384 versions, rising by object
 pub record FitsVersions (versions : List ObjectVersion) : Type 0 where
   pub few : length versions ≤ OBJECTS
   pub each : AllByRecursion FitsVersion versions
@@ -181,7 +185,7 @@ FitsReply (reply.NoLease end) = end < 2 ^ 64
 FitsReply (reply.NoMajority have need) = (have < 2 ^ 8) × (need < 2 ^ 8)
 FitsReply (reply.Elsewhere node end) = FitsNode node × (end < 2 ^ 64)
 FitsReply (reply.Denied rule) = Unit {0}
-FitsReply (reply.OldList version) = version < 2 ^ 31
+FitsReply (reply.OldList version) = IsVersion version
 FitsReply (reply.OldEpoch epoch) = IsCount epoch
 FitsReply (reply.TooFar object) = object < 2 ^ 64
 FitsReply reply.ClientsFull = Unit {0}
@@ -199,6 +203,8 @@ FitsMetaReq (ask.Stat path) = FitsPath path
 FitsMetaReq (ask.Chmod path mode) = FitsPath path × (mode < 2 ^ 16)
 FitsMetaReq (ask.Grant path want) = FitsPath path × (1 ≤ want) × (want ≤ 3)
 FitsMetaReq (ask.Report capability mark) = FitsCapability capability × FitsMark mark
+FitsMetaReq (ask.Change path nodes) = FitsPath path × FitsMembers nodes
+FitsMetaReq (ask.Locate path) = FitsPath path
 
 -- the rule of a Forbidden is 1 to search, 2 to write, 3 to read, 4 not the owner
 abbrev pub FitsMetaRefusal : MetaRefusal → Type 0
@@ -213,6 +219,9 @@ FitsMetaRefusal refusal.IntoSelf = Unit {0}
 FitsMetaRefusal refusal.OtherVolume = Unit {0}
 FitsMetaRefusal refusal.NameBad = Unit {0}
 FitsMetaRefusal (refusal.Denied rule) = Unit {0}
+FitsMetaRefusal (refusal.Changing version) = IsVersion version
+FitsMetaRefusal refusal.NotReplicated = Unit {0}
+FitsMetaRefusal (refusal.UnknownOsd node) = FitsNode node
 
 -- at most 512 names
 pub record FitsNames (names : List (List ℕ)) : Type 0 where
@@ -225,6 +234,7 @@ FitsMetaAnswer (answer.Refused refusal) = FitsMetaRefusal refusal
 FitsMetaAnswer (answer.Names names) = FitsNames names
 FitsMetaAnswer (answer.Row kind owner group mode mark) = (owner < 2 ^ 32) × (group < 2 ^ 32) × (mode < 2 ^ 16) × FitsMark mark
 FitsMetaAnswer (answer.Granted capability mark) = FitsCapability capability × FitsMark mark
+FitsMetaAnswer (answer.Located location changing) = FitsLocation location
 
 -- ---- requests and answers of the directory service
 
@@ -279,12 +289,46 @@ FitsPayload (payload.MetaReply number answer) = IsCount number × FitsMetaAnswer
 FitsPayload (payload.Registry number request) = IsCount number × FitsRegistryReq request
 FitsPayload (payload.RegistryReply number answer) = IsCount number × FitsRegistryAnswer answer
 FitsPayload (payload.Stop tag) = FitsTag tag
+FitsPayload (payload.Close file version) = FitsFile file × IsVersion version
+FitsPayload (payload.Closed file version head) = FitsFile file × IsVersion version × FitsHead head
+FitsPayload (payload.Install file location head source) = FitsFile file × FitsLocation location × FitsHead head × FitsNode source
+FitsPayload (payload.Installed file version) = FitsFile file × IsVersion version
+FitsPayload (payload.Pull file object version) = FitsFile file × IsObject object × FitsStamp version
+FitsPayload (payload.Pulled file object version bytes) = FitsFile file × IsObject object × FitsStamp version × FitsBytes bytes
+FitsPayload (payload.Wanted file) = FitsFile file
 
--- the version of the list is 1, which no frame carries
+-- whether replicas of one list say it to each other, of their lease and of their file
+abbrev pub is_of_list : Payload → Bool
+is_of_list (payload.Ask number capability op) = false
+is_of_list (payload.Reply number file reply) = false
+is_of_list (payload.Meta number user group request) = false
+is_of_list (payload.MetaReply number answer) = false
+is_of_list (payload.Registry number request) = false
+is_of_list (payload.RegistryReply number answer) = false
+is_of_list (payload.Stop tag) = false
+is_of_list (payload.Close file version) = false
+is_of_list (payload.Closed file version head) = false
+is_of_list (payload.Install file location head source) = false
+is_of_list (payload.Installed file version) = false
+is_of_list (payload.Pull file object version) = false
+is_of_list (payload.Pulled file object version bytes) = false
+is_of_list (payload.Wanted file) = false
+is_of_list _ = true
+
+-- a version above the first one
+pub record IsLaterList (list : ℕ) (content : Payload) : Type 0 where
+  pub later : 2 ≤ list
+  pub version : IsVersion list
+  pub among : IsTrue (is_of_list content)
+
+-- the first version; or a later one, of what replicas of one list say to each other
+abbrev pub FitsList : ℕ → Payload → Type 0
+FitsList list content = (list ≡ 1) ⊎ IsLaterList list content
+
 pub record FitsMessage (msg : Msg) : Type 0 where
   pub sender : FitsNode msg.from
   pub receiver : FitsNode msg.to
-  pub first : msg.list ≡ 1
+  pub listed : FitsList msg.list msg.payload
   pub content : FitsPayload msg.payload
 
 -- a message that is delivered is within its limits
@@ -294,6 +338,29 @@ FitsEvent event.Wake = Unit {0}
 FitsEvent (event.Call call) = Unit {0}
 
 -- ---- records
+
+-- an object below the last number of 32 bits, which an old record has for none; or none
+abbrev pub IsOldObjectOrNone : ℕ → Type 0
+IsOldObjectOrNone object = (object < 2 ^ 32 - 1) ⊎ (object ≡ NO_OBJECT)
+
+-- an object that an old record can name
+abbrev pub IsOldObject : ℕ → Type 0
+IsOldObject object = object < 2 ^ 32
+
+abbrev pub IsOldVersion : ObjectVersion → Type 0
+IsOldVersion entry = IsOldObject entry.object
+
+-- an update that an old record can have
+pub record FitsOldUpdate (update : Update) : Type 0 where
+  pub fits : FitsUpdate update
+  pub drops : IsOldObjectOrNone update.drop_from
+  pub gets : IsOldObjectOrNone update.object
+
+-- a head that an old record can have: at most 4,096 versions
+pub record FitsOldHead (head : FileHead) : Type 0 where
+  pub fits : FitsHead head
+  pub few : length head.versions ≤ 4096
+  pub small : AllByRecursion IsOldVersion head.versions
 
 abbrev pub FitsLogged : Logged → Type 0
 FitsLogged (logged.Meta user group request) = (user < 2 ^ 32) × (group < 2 ^ 32) × FitsMetaReq request
@@ -307,3 +374,14 @@ FitsRecord (kept.Stage file object version bytes) = FitsFile file × IsObject ob
 FitsRecord (kept.Head file head) = FitsFile file × FitsHead head
 FitsRecord (kept.View file location) = FitsFile file × FitsLocation location
 FitsRecord (kept.Meta from number now nodes request) = FitsNode from × IsCount number × IsCount now × IfSome nodes FitsMembers × FitsLogged request
+FitsRecord (kept.Close file version) = FitsFile file × IsVersion version
+FitsRecord (kept.Install file location head) = FitsFile file × FitsLocation location × FitsHead head
+FitsRecord (kept.Choice file location head source) = FitsFile file × FitsLocation location × FitsHead head × FitsNode source
+FitsRecord (kept.Listed file version) = FitsFile file × IsVersion version
+FitsRecord (kept.Seal file object version digest) = FitsFile file × IsObject object × FitsStamp version × FitsTag digest
+FitsRecord (kept.Forget file) = FitsFile file
+FitsRecord (kept.OldUpdate file update) = FitsFile file × FitsOldUpdate update
+FitsRecord (kept.OldStage file object version bytes) = FitsFile file × IsOldObject object × FitsStamp version × FitsBytes bytes
+FitsRecord (kept.OldHead file head) = FitsFile file × FitsOldHead head
+FitsRecord (kept.OldInstall file location head) = FitsFile file × FitsLocation location × FitsOldHead head
+FitsRecord (kept.OldChoice file location head source) = FitsFile file × FitsLocation location × FitsOldHead head × FitsNode source

@@ -5,7 +5,7 @@ use crate::registry::{RegistryReq, RegistryRow};
 use crate::reply::Answers;
 use crate::status::AskRefusal;
 use std::alloc::Global;
-use xt_base::{Copies, FileId, NodeId, Octets, OpId, OutOfMemory, Seq, SizeMark};
+use xt_base::{Copies, FileId, Members, NodeId, Octets, OpId, OutOfMemory, Seq, SizeMark};
 
 /// A call of a client, on a file by its number, on the MRC or on the DIR.
 pub enum Call {
@@ -123,6 +123,11 @@ pub enum MetaOutcome {
         file: u64,
         mark: SizeMark,
     },
+    Located {
+        version: u32,
+        changing: bool,
+        members: Members,
+    },
 }
 
 impl Copies for MetaOutcome {
@@ -149,6 +154,15 @@ impl Copies for MetaOutcome {
             MetaOutcome::Granted { file, mark } => MetaOutcome::Granted {
                 file: *file,
                 mark: *mark,
+            },
+            MetaOutcome::Located {
+                version,
+                changing,
+                members,
+            } => MetaOutcome::Located {
+                version: *version,
+                changing: *changing,
+                members: *members,
             },
         })
     }
@@ -218,6 +232,12 @@ pub enum Mark {
     File {
         file: FileId,
         location: Location,
+    },
+    /// The MRC ended a change of a file's list.
+    List {
+        file: FileId,
+        version: u32,
+        members: Members,
     },
     /// A client's call begins.
     Begin {

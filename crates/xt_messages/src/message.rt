@@ -1,4 +1,4 @@
-use crate::file::{Capability, FileHead, Op, Update};
+use crate::file::{Capability, FileHead, Location, Op, Update};
 use crate::meta::{MetaAnswer, MetaReq};
 use crate::registry::{RegistryAnswer, RegistryReq};
 use crate::reply::Reply;
@@ -7,7 +7,7 @@ use xt_base::{
     Ballot, Boot, Copies, Epoch, FileId, Lease, NodeId, Octets, OutOfMemory, Seq, Stamp,
 };
 
-/// What a message says, in the order of the kinds' numbers, from 1.
+/// What a message says, in the order of the kinds' numbers: from 1, and from 33 on for what changes a file's list.
 pub enum Payload {
     /// Asks an acceptor to promise a ballot.
     Read {
@@ -143,6 +143,44 @@ pub enum Payload {
     /// Ends a served node, where the tag is right.
     Stop {
         tag: [u8; 32],
+    },
+    /// Closes this version of a file's list at one of its members.
+    Close {
+        file: FileId,
+        version: u32,
+    },
+    /// The member has closed this version, and this is its head.
+    Closed {
+        file: FileId,
+        version: u32,
+        head: FileHead,
+    },
+    /// The list that a member is to take, and the head that it begins with. The source has the bodies.
+    Install {
+        file: FileId,
+        location: Location,
+        head: FileHead,
+        source: NodeId,
+    },
+    Installed {
+        file: FileId,
+        version: u32,
+    },
+    /// Asks for the bytes of one version of an object of a head that is to be installed.
+    Pull {
+        file: FileId,
+        object: u64,
+        version: Stamp,
+    },
+    Pulled {
+        file: FileId,
+        object: u64,
+        version: Stamp,
+        bytes: Octets,
+    },
+    /// A new member can go on with what it is to install.
+    Wanted {
+        file: FileId,
     },
 }
 
@@ -322,6 +360,55 @@ impl Copies for Payload {
                 answer: answer.copy(alloc)?,
             },
             Payload::Stop { tag } => Payload::Stop { tag: *tag },
+            Payload::Close { file, version } => Payload::Close {
+                file: *file,
+                version: *version,
+            },
+            Payload::Closed {
+                file,
+                version,
+                head,
+            } => Payload::Closed {
+                file: *file,
+                version: *version,
+                head: head.copy(alloc)?,
+            },
+            Payload::Install {
+                file,
+                location,
+                head,
+                source,
+            } => Payload::Install {
+                file: *file,
+                location: *location,
+                head: head.copy(alloc)?,
+                source: *source,
+            },
+            Payload::Installed { file, version } => Payload::Installed {
+                file: *file,
+                version: *version,
+            },
+            Payload::Pull {
+                file,
+                object,
+                version,
+            } => Payload::Pull {
+                file: *file,
+                object: *object,
+                version: *version,
+            },
+            Payload::Pulled {
+                file,
+                object,
+                version,
+                bytes,
+            } => Payload::Pulled {
+                file: *file,
+                object: *object,
+                version: *version,
+                bytes: bytes.copy(alloc)?,
+            },
+            Payload::Wanted { file } => Payload::Wanted { file: *file },
         })
     }
 }
@@ -330,7 +417,7 @@ impl Copies for Payload {
 pub struct Msg {
     pub from: NodeId,
     pub to: NodeId,
-    /// The version of the file's list of members. It is 1, and no frame carries it, until lists change.
+    /// The version of the file's list of members. It is 1 but for what replicas of a later list say to each other.
     pub list: u32,
     pub payload: Payload,
 }
@@ -461,6 +548,37 @@ impl Drop for Payload {
                 answer: _,
             } => {}
             Payload::Stop { tag: _ } => {}
+            Payload::Close {
+                file: _,
+                version: _,
+            } => {}
+            Payload::Closed {
+                file: _,
+                version: _,
+                head: _,
+            } => {}
+            Payload::Install {
+                file: _,
+                location: _,
+                head: _,
+                source: _,
+            } => {}
+            Payload::Installed {
+                file: _,
+                version: _,
+            } => {}
+            Payload::Pull {
+                file: _,
+                object: _,
+                version: _,
+            } => {}
+            Payload::Pulled {
+                file: _,
+                object: _,
+                version: _,
+                bytes: _,
+            } => {}
+            Payload::Wanted { file: _ } => {}
         }
     }
 }

@@ -1,9 +1,9 @@
 ghost use Rattle.std.specs.Prelude.{◌≡◌, IfOk};
 
-use crate::file::{Capability, Kind};
+use crate::file::{Capability, Kind, Location};
 use crate::reply::Denial;
 use std::alloc::Global;
-use xt_base::{Copies, Name, OutOfMemory, Seq, SizeMark};
+use xt_base::{Copies, Members, Name, NodeId, OutOfMemory, Seq, SizeMark};
 
 /// A request to the MRC.
 pub enum MetaReq {
@@ -50,6 +50,15 @@ pub enum MetaReq {
     Report {
         capability: Capability,
         mark: SizeMark,
+    },
+    /// A new list of members for a replicated file.
+    Change {
+        path: Name,
+        nodes: Members,
+    },
+    /// Where a file is, and whether its list is being changed.
+    Locate {
+        path: Name,
     },
 }
 
@@ -111,6 +120,13 @@ impl Copies for MetaReq {
                 capability: *capability,
                 mark: *mark,
             },
+            MetaReq::Change { path, nodes } => MetaReq::Change {
+                path: path.copy(alloc)?,
+                nodes: *nodes,
+            },
+            MetaReq::Locate { path } => MetaReq::Locate {
+                path: path.copy(alloc)?,
+            },
         })
     }
 }
@@ -131,6 +147,11 @@ pub enum MetaRefusal {
     /// So many OSDs are there, fewer than the file asks for.
     TooFew { have: u8 },
     Denied { rule: Denial },
+    /// The list of this file is being changed to this version.
+    Changing { version: u32 },
+    NotReplicated,
+    /// The first node of the list that isn't among the MRC's OSDs.
+    UnknownOsd { node: NodeId },
 }
 
 /// What a row of a volume is.
@@ -163,6 +184,11 @@ pub enum MetaAnswer {
         capability: Capability,
         mark: SizeMark,
     },
+    Located {
+        location: Location,
+        /// Whether the list is being changed.
+        changing: bool,
+    },
 }
 
 impl Copies for MetaAnswer {
@@ -189,6 +215,10 @@ impl Copies for MetaAnswer {
             MetaAnswer::Granted { capability, mark } => Ok(MetaAnswer::Granted {
                 capability: *capability,
                 mark: *mark,
+            }),
+            MetaAnswer::Located { location, changing } => Ok(MetaAnswer::Located {
+                location: *location,
+                changing: *changing,
             }),
         }
     }
@@ -218,6 +248,8 @@ impl Drop for MetaReq {
                 capability: _,
                 mark: _,
             } => {}
+            MetaReq::Change { path: _, nodes: _ } => {}
+            MetaReq::Locate { path: _ } => {}
         }
     }
 }
@@ -238,6 +270,10 @@ impl Drop for MetaAnswer {
             MetaAnswer::Granted {
                 capability: _,
                 mark: _,
+            } => {}
+            MetaAnswer::Located {
+                location: _,
+                changing: _,
             } => {}
         }
     }

@@ -37,7 +37,7 @@ impl Copies for Logged {
     }
 }
 
-/// What a node keeps of a step, in the order of the kinds' numbers, from 1.
+/// What a node keeps of a step.
 pub enum Record {
     /// A start.
     Boot {
@@ -77,6 +77,66 @@ pub enum Record {
         now: u64,
         nodes: Option<Members>,
         request: Logged,
+    },
+    /// A version of a file's list that is closed at this node.
+    Close {
+        file: FileId,
+        version: u32,
+    },
+    /// A list that a member took, with the head that it begins with.
+    Install {
+        file: FileId,
+        location: Location,
+        head: FileHead,
+    },
+    /// The MRC's choice for its running change: the new list, its first head, and the node that has the bodies.
+    Choice {
+        file: FileId,
+        location: Location,
+        head: FileHead,
+        source: NodeId,
+    },
+    /// The MRC ended its change to this version.
+    Listed {
+        file: FileId,
+        version: u32,
+    },
+    /// The digest of a body.
+    Seal {
+        file: FileId,
+        object: u64,
+        version: Stamp,
+        digest: [u8; 32],
+    },
+    /// A file that is removed with all that is kept of it.
+    Forget {
+        file: FileId,
+    },
+    /// An update as it was written while objects had 32 bits. It, and the four kinds that follow, are read and no longer written.
+    OldUpdate {
+        file: FileId,
+        update: Update,
+    },
+    OldStage {
+        file: FileId,
+        object: u64,
+        version: Stamp,
+        bytes: Octets,
+    },
+    OldHead {
+        file: FileId,
+        head: FileHead,
+    },
+    OldInstall {
+        file: FileId,
+        location: Location,
+        head: FileHead,
+    },
+    OldChoice {
+        file: FileId,
+        location: Location,
+        head: FileHead,
+        source: NodeId,
     },
 }
 
@@ -124,6 +184,85 @@ impl Copies for Record {
                 nodes: *nodes,
                 request: request.copy(alloc)?,
             }),
+            Record::Close { file, version } => Ok(Record::Close {
+                file: *file,
+                version: *version,
+            }),
+            Record::Install {
+                file,
+                location,
+                head,
+            } => Ok(Record::Install {
+                file: *file,
+                location: *location,
+                head: head.copy(alloc)?,
+            }),
+            Record::Choice {
+                file,
+                location,
+                head,
+                source,
+            } => Ok(Record::Choice {
+                file: *file,
+                location: *location,
+                head: head.copy(alloc)?,
+                source: *source,
+            }),
+            Record::Listed { file, version } => Ok(Record::Listed {
+                file: *file,
+                version: *version,
+            }),
+            Record::Seal {
+                file,
+                object,
+                version,
+                digest,
+            } => Ok(Record::Seal {
+                file: *file,
+                object: *object,
+                version: *version,
+                digest: *digest,
+            }),
+            Record::Forget { file } => Ok(Record::Forget { file: *file }),
+            Record::OldUpdate { file, update } => Ok(Record::OldUpdate {
+                file: *file,
+                update: update.copy(alloc)?,
+            }),
+            Record::OldStage {
+                file,
+                object,
+                version,
+                bytes,
+            } => Ok(Record::OldStage {
+                file: *file,
+                object: *object,
+                version: *version,
+                bytes: bytes.copy(alloc)?,
+            }),
+            Record::OldHead { file, head } => Ok(Record::OldHead {
+                file: *file,
+                head: head.copy(alloc)?,
+            }),
+            Record::OldInstall {
+                file,
+                location,
+                head,
+            } => Ok(Record::OldInstall {
+                file: *file,
+                location: *location,
+                head: head.copy(alloc)?,
+            }),
+            Record::OldChoice {
+                file,
+                location,
+                head,
+                source,
+            } => Ok(Record::OldChoice {
+                file: *file,
+                location: *location,
+                head: head.copy(alloc)?,
+                source: *source,
+            }),
         }
     }
 }
@@ -166,6 +305,8 @@ pub struct FileRow {
     pub head: FileHead,
     pub held: HeldSet,
     pub location: Option<Location>,
+    /// The version of the last list that was closed.
+    pub closed: Option<u32>,
 }
 
 /// What a node's records say of its files, rising by file.
@@ -233,6 +374,51 @@ impl Drop for Record {
                 now: _,
                 nodes: _,
                 request: _,
+            } => {}
+            Record::Close {
+                file: _,
+                version: _,
+            } => {}
+            Record::Install {
+                file: _,
+                location: _,
+                head: _,
+            } => {}
+            Record::Choice {
+                file: _,
+                location: _,
+                head: _,
+                source: _,
+            } => {}
+            Record::Listed {
+                file: _,
+                version: _,
+            } => {}
+            Record::Seal {
+                file: _,
+                object: _,
+                version: _,
+                digest: _,
+            } => {}
+            Record::Forget { file: _ } => {}
+            Record::OldUpdate { file: _, update: _ } => {}
+            Record::OldStage {
+                file: _,
+                object: _,
+                version: _,
+                bytes: _,
+            } => {}
+            Record::OldHead { file: _, head: _ } => {}
+            Record::OldInstall {
+                file: _,
+                location: _,
+                head: _,
+            } => {}
+            Record::OldChoice {
+                file: _,
+                location: _,
+                head: _,
+                source: _,
             } => {}
         }
     }

@@ -58,7 +58,7 @@ fn part_at(alloc: Global, id: MessageId, message: &[u8], index: u8) -> Result<Oc
     let payload = payload_at(message, index as usize);
     let mut part = Vec::with_capacity(alloc, HEADER + payload.len())?;
     header.put(&mut part, payload);
-    Ok(Octets::from(part))
+    Octets::from_vec(part)
 }
 
 /// The parts of a message, in order. An error comes only where memory runs out.

@@ -12,7 +12,7 @@ use message_ids::MessageId;
 use std::alloc::{AllocError, AllocFailed, Global};
 use std::marker::Model;
 use thiserror::Error;
-use xt_base::{Boot, FRAME, NodeId, Octets};
+use xt_base::{Boot, Buffer, FRAME, NodeId};
 
 /// Why a part wasn't taken. The joiner is as it was.
 #[derive(Clone, Copy, Debug, Error)]
@@ -45,11 +45,11 @@ impl<T: Drop> From<AllocFailed<T>> for JoinErr {
 pub struct Whole {
     pub sender: NodeId,
     pub boot: Boot,
-    pub bytes: Octets,
+    pub bytes: Buffer,
 }
 
 impl Whole {
-    fn of(id: &MessageId, bytes: Octets) -> Whole
+    fn of(id: &MessageId, bytes: Buffer) -> Whole
         ensures { result ≡ record { sender = id.now.sender; boot = id.now.boot; bytes = bytes } }
     {
         Whole {
@@ -170,11 +170,11 @@ impl Half {
 
     /// The bytes of the message, as they stand.
     #[tactic(auto, using(crate::proofs::Payloads::bytes_in_place))]
-    fn into_bytes(self) -> Octets
+    fn into_bytes(self) -> Buffer
         requires { list_all is_some self.taken ≡ true }
         ensures { Some result ≡ bytes_of self.taken }
     {
-        Octets::from(self.bytes)
+        Buffer::from(self.bytes)
     }
 }
 

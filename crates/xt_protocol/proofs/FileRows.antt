@@ -1,5 +1,5 @@
 -- Rows that rise by file: what a row that is put, or read, meets at the first of them, and that the order is kept.
-use Rattle.std.proofs.Common.{◌≡◌, Bool, true, false, cond, List, [], ◌∷◌, refl, ap, sym, ◌∙◌, subst}
+use Rattle.std.proofs.Common.{◌≡◌, Bool, true, false, not, cond, List, [], ◌∷◌, refl, ap, sym, ◌∙◌, subst}
 use Rattle.std.specs.List.{AllByRecursion}
 use Rattle.std.specs.Ordering.{is_eq, is_lt, ordering_reverse}
 use Rattle.std.specs.declared.cmp.Ordering.{Ordering}
@@ -7,7 +7,7 @@ use Rattle.std.specs.declared.cmp.Ordering.TheVariants.{Less, Equal, Greater}
 use Rattle.xt_base.specs.declared.ids.FileId.{FileId}
 use Rattle.xt_messages.specs.declared.record.FileRow.{FileRow}
 use Rattle.xt_protocol.specs.FileIds.{is_file, is_before, file_cmp}
-use Rattle.xt_protocol.specs.Folds.{row_in, with_row}
+use Rattle.xt_protocol.specs.Folds.{row_in, with_row, without_row}
 use Rattle.xt_protocol.proofs.Folds.{file-equal, is_file-file_cmp, file_cmp_total}
 
 -- each file comes before all later ones
@@ -94,3 +94,23 @@ rise-with_row (r ∷ rows) row rise = at (rise-with_row rows row rise.1) (file_c
     at later Greater is =
         let first : is_before row.file r.file ≡ true = ap is_lt (back row.file r.file Greater is) in
         subst FilesRise (sym (put_before r row rows is)) ((first, all_later row.file r.file rows first rise.0), rise)
+
+-- ---- rows that are left when some are removed
+
+pub each-without_row : (P : FileRow → Type 0) (rows : List FileRow) (file : FileId) → AllByRecursion P rows → AllByRecursion P (without_row rows file)
+unfolding without_row
+each-without_row P [] file all = tt
+each-without_row P (r ∷ rows) file all = at (each-without_row P rows file all.1) (not (is_file r.file file))
+  where
+    at : AllByRecursion P (without_row rows file) → (stays : Bool) → AllByRecursion P (cond stays (r ∷ without_row rows file) (without_row rows file))
+    at later true = (all.0, later)
+    at later false = later
+
+pub rise-without_row : (rows : List FileRow) (file : FileId) → FilesRise rows → FilesRise (without_row rows file)
+unfolding without_row
+rise-without_row [] file rise = tt
+rise-without_row (r ∷ rows) file rise = at (rise-without_row rows file rise.1) (not (is_file r.file file))
+  where
+    at : FilesRise (without_row rows file) → (stays : Bool) → FilesRise (cond stays (r ∷ without_row rows file) (without_row rows file))
+    at later true = (each-without_row (λ x. is_before r.file x.file ≡ true) rows file rise.0, later)
+    at later false = later

@@ -1,5 +1,6 @@
 -- which files are one; and what the records of a node say, one record after the other
-use Rattle.std.proofs.Common.{◌≡◌, ◌==◌, ◌&&◌, ℕ, Bool, true, false, List, [], ◌∷◌, ◌++◌, None, refl, ap, sym, ◌∙◌, cond, eq-eqb, arith}
+use Rattle.std.proofs.Common.{◌≡◌, ◌==◌, ◌&&◌, ℕ, Bool, true, false, not, List, [], ◌∷◌, ◌++◌, map, Some, None, refl, ap, sym, ◌∙◌, cond, eq-eqb, arith}
+use Rattle.std.specs.Prelude.{filter}
 use Rattle.std.proofs.lemmas.Bool.{and_parts, and_from, eqb-true}
 use Rattle.std.proofs.lemmas.Bool.Decides.{nat_tests}
 use Rattle.std.proofs.lemmas.List.Elements.{filter-append}
@@ -19,8 +20,9 @@ use Rattle.xt_base.specs.declared.ids.Stamp.{Stamp}
 use Rattle.xt_messages.specs.declared.record.Record.{Record}
 use Rattle.xt_messages.specs.declared.record.Record.TheVariants as kept
 use Rattle.xt_messages.specs.declared.record.FileRow.{FileRow}
+use Rattle.xt_messages.specs.declared.record.Folded.{Folded}
 use Rattle.xt_protocol.specs.FileIds.{is_file, is_before, file_cmp}
-use Rattle.xt_protocol.specs.Folds.{row_in, with_row, row_after, folded_after, nothing_kept, fold_of, is_logged, logged_of, body_after, body_kept}
+use Rattle.xt_protocol.specs.Folds.{new_row, row_in, with_row, without_row, row_after, rows_after, folded_after, nothing_kept, fold_of, is_logged, logged_of, widened, body_after, body_kept}
 
 -- ---- which files are one
 
@@ -133,6 +135,86 @@ row_after-file row (kept.Head file head) = refl
 row_after-file row (kept.View file location) = refl
 row_after-file row (kept.Boot boot) = refl
 row_after-file row (kept.Meta from number now nodes request) = refl
+row_after-file row (kept.Close file version) = refl
+row_after-file row (kept.Install file location head) = refl
+row_after-file row (kept.Choice file location head source) = refl
+row_after-file row (kept.Listed file version) = refl
+row_after-file row (kept.Seal file object version digest) = refl
+row_after-file row (kept.Forget file) = refl
+row_after-file row (kept.OldUpdate file update) = refl
+row_after-file row (kept.OldStage file object version bytes) = refl
+row_after-file row (kept.OldHead file head) = refl
+row_after-file row (kept.OldInstall file location head) = refl
+row_after-file row (kept.OldChoice file location head source) = refl
+
+-- a file that is this row's, where another is not
+other_row : (row gone file : FileId) → is_file row gone ≡ false → is_file row file ≡ true → is_file gone file ≡ false
+other_row row gone file out here = at (is_file gone file) refl
+  where
+    at : (c : Bool) → is_file gone file ≡ c → is_file gone file ≡ false
+    at true same =
+        let there : is_file row gone ≡ true = file-along row file gone here (file-back gone file same) in cc
+    at false differs = differs
+
+-- the row of a file after the rows of a file were removed: a new one where it is that file, else the one before
+pub row_in-without_row : (rows : List FileRow) (gone file : FileId)
+    → row_in (without_row rows gone) file ≡ cond (is_file gone file) (new_row file) (row_in rows file)
+unfolding row_in without_row
+row_in-without_row [] gone file = at (is_file gone file)
+  where
+    at : (same : Bool) → new_row file ≡ cond same (new_row file) (new_row file)
+    at true = refl
+    at false = refl
+row_in-without_row (r ∷ rs) gone file = at (row_in-without_row rs gone file) (is_file r.file gone) refl (is_file r.file file) refl
+  where
+    at : row_in (without_row rs gone) file ≡ cond (is_file gone file) (new_row file) (row_in rs file)
+        → (out : Bool) → is_file r.file gone ≡ out → (here : Bool) → is_file r.file file ≡ here
+        → row_in (cond (not out) (r ∷ without_row rs gone) (without_row rs gone)) file
+        ≡ cond (is_file gone file) (new_row file) (cond here r (row_in rs file))
+    at later true out true here =
+        let same : is_file gone file ≡ true = file-along gone r.file file (file-back r.file gone out) here in
+        later
+        ∙ ap (λ t. cond t (new_row file) (row_in rs file)) same
+        ∙ sym (ap (λ t. cond t (new_row file) r) same)
+    at later true out false here = later
+    at later false out true here =
+        let other : is_file gone file ≡ false = other_row r.file gone file out here in
+        ap (λ t. cond t r (row_in (without_row rs gone) file)) here ∙ sym (ap (λ t. cond t (new_row file) r) other)
+    at later false out false here = ap (λ t. cond t r (row_in (without_row rs gone) file)) here ∙ later
+
+-- the row of a file after a record of a file: what the record makes of that file's row, or the one before
+pub row_in-rows_after : (rows : List FileRow) (rec : Record) (its file : FileId)
+    → row_in (rows_after rows rec (Some its)) file ≡ cond (is_file its file) (row_after (row_in rows its) rec) (row_in rows file)
+row_in-rows_after rows rec its file = at rec
+  where
+    put : (r : Record) → row_in (with_row rows (row_after (row_in rows its) r)) file ≡ cond (is_file its file) (row_after (row_in rows its) r) (row_in rows file)
+    put r =
+        row_in-with_row rows (row_after (row_in rows its) r) file
+        ∙ ap (λ f. cond (is_file f file) (row_after (row_in rows its) r) (row_in rows file)) (row_after-file (row_in rows its) r ∙ row_in-file rows its)
+
+    gone : (same : Bool) → is_file its file ≡ same → cond same (new_row file) (row_in rows file) ≡ cond same (new_row (row_in rows its).file) (row_in rows file)
+    gone true same = ap new_row (sym (row_in-file rows its ∙ file-equal its file same))
+    gone false differ = refl
+
+    at : (r : Record) → row_in (rows_after rows r (Some its)) file ≡ cond (is_file its file) (row_after (row_in rows its) r) (row_in rows file)
+    at (kept.Promise f epoch) = put (kept.Promise f epoch)
+    at (kept.Update f update) = put (kept.Update f update)
+    at (kept.Stage f object version bytes) = put (kept.Stage f object version bytes)
+    at (kept.Head f head) = put (kept.Head f head)
+    at (kept.View f location) = put (kept.View f location)
+    at (kept.Boot boot) = put (kept.Boot boot)
+    at (kept.Meta from number now nodes request) = put (kept.Meta from number now nodes request)
+    at (kept.Close f version) = put (kept.Close f version)
+    at (kept.Install f location head) = put (kept.Install f location head)
+    at (kept.Choice f location head source) = put (kept.Choice f location head source)
+    at (kept.Listed f version) = put (kept.Listed f version)
+    at (kept.Seal f object version digest) = put (kept.Seal f object version digest)
+    at (kept.Forget f) = row_in-without_row rows its file ∙ gone (is_file its file) refl
+    at (kept.OldUpdate f update) = put (kept.OldUpdate f update)
+    at (kept.OldStage f object version bytes) = put (kept.OldStage f object version bytes)
+    at (kept.OldHead f head) = put (kept.OldHead f head)
+    at (kept.OldInstall f location head) = put (kept.OldInstall f location head)
+    at (kept.OldChoice f location head source) = put (kept.OldChoice f location head source)
 
 -- ---- one more record
 
@@ -161,6 +243,73 @@ pub body_kept-append : (records later : List Record) (file : FileId) (object : �
     → body_kept (records ++ later) file object version ≡ fold (body_after file object version) (body_kept records file object version) later
 unfolding body_kept
 body_kept-append records later file object version = fold-append (body_after file object version) None records later
+
+-- ---- old kinds say what the present ones say
+
+widened_after : (folded : Folded) (rec : Record) → folded_after folded (widened rec) ≡ folded_after folded rec
+widened_after folded (kept.Boot boot) = refl
+widened_after folded (kept.Promise file epoch) = refl
+widened_after folded (kept.Update file update) = refl
+widened_after folded (kept.Stage file object version bytes) = refl
+widened_after folded (kept.Head file head) = refl
+widened_after folded (kept.View file location) = refl
+widened_after folded (kept.Meta from number now nodes request) = refl
+widened_after folded (kept.Close file version) = refl
+widened_after folded (kept.Install file location head) = refl
+widened_after folded (kept.Choice file location head source) = refl
+widened_after folded (kept.Listed file version) = refl
+widened_after folded (kept.Seal file object version digest) = refl
+widened_after folded (kept.Forget file) = refl
+widened_after folded (kept.OldUpdate file update) = refl
+widened_after folded (kept.OldStage file object version bytes) = refl
+widened_after folded (kept.OldHead file head) = refl
+widened_after folded (kept.OldInstall file location head) = refl
+widened_after folded (kept.OldChoice file location head source) = refl
+
+widened_from : (folded : Folded) (records : List Record) → fold folded_after folded (map widened records) ≡ fold folded_after folded records
+widened_from folded [] = refl
+widened_from folded (rec ∷ records) =
+    ap (λ f. fold folded_after f (map widened records)) (widened_after folded rec) ∙ widened_from (folded_after folded rec) records
+
+-- the fold of records is that of the same records with each old kind widened
+pub fold_widened : (records : List Record) → fold_of (map widened records) ≡ fold_of records
+unfolding fold_of
+fold_widened records = widened_from nothing_kept records
+
+widened_logged : (rec : Record) → is_logged (widened rec) ≡ is_logged rec
+widened_logged (kept.Boot boot) = refl
+widened_logged (kept.Promise file epoch) = refl
+widened_logged (kept.Update file update) = refl
+widened_logged (kept.Stage file object version bytes) = refl
+widened_logged (kept.Head file head) = refl
+widened_logged (kept.View file location) = refl
+widened_logged (kept.Meta from number now nodes request) = refl
+widened_logged (kept.Close file version) = refl
+widened_logged (kept.Install file location head) = refl
+widened_logged (kept.Choice file location head source) = refl
+widened_logged (kept.Listed file version) = refl
+widened_logged (kept.Seal file object version digest) = refl
+widened_logged (kept.Forget file) = refl
+widened_logged (kept.OldUpdate file update) = refl
+widened_logged (kept.OldStage file object version bytes) = refl
+widened_logged (kept.OldHead file head) = refl
+widened_logged (kept.OldInstall file location head) = refl
+widened_logged (kept.OldChoice file location head source) = refl
+
+-- and the recorded requests are the same, widened
+pub logged_widened : (records : List Record) → logged_of (map widened records) ≡ map widened (logged_of records)
+unfolding logged_of
+logged_widened [] = refl
+logged_widened (rec ∷ records) = at (is_logged rec) (logged_widened records) (widened_logged rec)
+  where
+    at : (logged : Bool) → filter is_logged (map widened records) ≡ map widened (filter is_logged records) → is_logged (widened rec) ≡ logged
+        → cond (is_logged (widened rec)) (widened rec ∷ filter is_logged (map widened records)) (filter is_logged (map widened records))
+        ≡ map widened (cond logged (rec ∷ filter is_logged records) (filter is_logged records))
+    at true later same =
+        ap (λ t. cond t (widened rec ∷ filter is_logged (map widened records)) (filter is_logged (map widened records))) same
+        ∙ ap (λ l. widened rec ∷ l) later
+    at false later same =
+        ap (λ t. cond t (widened rec ∷ filter is_logged (map widened records)) (filter is_logged (map widened records))) same ∙ later
 
 -- ---- recorded requests
 

@@ -1,3 +1,4 @@
 pub mod FileRows
 pub mod Folds
 pub mod Stamps
+pub mod Sorts

@@ -355,7 +355,7 @@ deadline_reply = reply_to (node 1) file_1 (id_of 10 1) (reply.NoMajority 1 2) �
 -- and are looked at once the issued one is committed.
 abbrev pub behind_issued : List Deed
 behind_issued =
-    ticks 1100 ∷ writes_at 10 1 1 0 abc ∷ asks 11 1 1 (op.Write 4096 0 abc) ∷ writes_at 12 1 1 0 abc ∷ delivers 1 ∷ delivers 2 ∷ delivers 3
+    ticks 1100 ∷ writes_at 10 1 1 0 abc ∷ asks 11 1 1 (op.Write 16384 0 abc) ∷ writes_at 12 1 1 0 abc ∷ delivers 1 ∷ delivers 2 ∷ delivers 3
     ∷ delivers 4 ∷ delivers 6 ∷ delivers 7 ∷ delivers 8 ∷ delivers 9 ∷ delivers 11 ∷ delivers 12 ∷ delivers 13 ∷ []
 
 abbrev pub behind_issued_marks : List (ℕ × Mark)
@@ -365,7 +365,7 @@ abbrev pub committed_then : List Deed
 committed_then = behind_issued ++ delivers 14 ∷ delivers 15 ∷ []
 
 abbrev pub too_far_reply : List Msg
-too_far_reply = reply_to (node 1) file_1 (id_of 11 1) (reply.TooFar 4096) ∷ []
+too_far_reply = reply_to (node 1) file_1 (id_of 11 1) (reply.TooFar 16384) ∷ []
 
 -- A replica with two versions, which holds an older body besides.
 abbrev pub epoch_of : ℕ → ℕ → Epoch

@@ -66,11 +66,12 @@ file_from awake row =
 abbrev pub nothing : FileState → FileStep
 nothing s = record { state = s; turned = quiet }
 
--- the bodies that were staged since the last head or update, after a record
+-- the bodies that were staged since the last head, install or update, after a record
 abbrev pub staged_after : List ObjectVersion → Option Record → List ObjectVersion
 staged_after staged (Some (kept.Stage file object version bytes)) = with_held staged (body_of object version)
 staged_after staged (Some (kept.Update file update)) = []
 staged_after staged (Some (kept.Head file head)) = []
+staged_after staged (Some (kept.Install file location head)) = []
 staged_after staged _ = staged
 
 -- a step that leaves the file in this state; its record changes what is kept

@@ -13,14 +13,14 @@ use Rattle.xt_messages.specs.declared.record.FileRow.{FileRow}
 use Rattle.xt_messages.specs.declared.record.Folded.{Folded}
 use Rattle.xt_base.specs.declared.TheConstants.{NO_OBJECT}
 use Rattle.xt_protocol.specs.FileIds.{is_file, is_before}
-use Rattle.xt_protocol.specs.Heads.{first_epoch, new_head, head_after}
+use Rattle.xt_protocol.specs.Heads.{first_epoch, new_head, head_installed, head_after}
 use Rattle.xt_protocol.specs.Stamps.{is_stamp, with_held}
 
 -- ---- one file
 
 -- what a file begins as: nothing is written, held or known of it
 abbrev pub new_row : FileId → FileRow
-new_row file = record { file = file; head = new_head; held = []; location = None }
+new_row file = record { file = file; head = new_head; held = []; location = None; closed = None }
 
 -- a body that is held
 abbrev pub body_of : ℕ → Stamp → ObjectVersion
@@ -39,8 +39,19 @@ row_after row (kept.Head file head) = record row { head = head }
 row_after row (kept.View file location) = record row { location = Some location }
 row_after row (kept.Boot boot) = row
 row_after row (kept.Meta from number now nodes request) = row
+row_after row (kept.Close file version) = record row { closed = Some version }
+row_after row (kept.Install file location head) = record row { head = head_installed row.head head; location = Some location }
+row_after row (kept.Choice file location head source) = row
+row_after row (kept.Listed file version) = row
+row_after row (kept.Seal file object version digest) = row
+row_after row (kept.Forget file) = new_row row.file
+row_after row (kept.OldUpdate file update) = record row { head = head_after row.head update; held = held_after row.held update }
+row_after row (kept.OldStage file object version bytes) = record row { held = with_held row.held (body_of object version) }
+row_after row (kept.OldHead file head) = record row { head = head }
+row_after row (kept.OldInstall file location head) = record row { head = head_installed row.head head; location = Some location }
+row_after row (kept.OldChoice file location head source) = row
 
--- the file that a record is of, if any
+-- the file whose row a record changes, if any
 abbrev pub file_of : Record → Option FileId
 file_of (kept.Promise file epoch) = Some file
 file_of (kept.Update file update) = Some file
@@ -49,6 +60,22 @@ file_of (kept.Head file head) = Some file
 file_of (kept.View file location) = Some file
 file_of (kept.Boot boot) = None
 file_of (kept.Meta from number now nodes request) = None
+file_of (kept.Close file version) = Some file
+file_of (kept.Install file location head) = Some file
+file_of (kept.Choice file location head source) = None
+file_of (kept.Listed file version) = None
+file_of (kept.Seal file object version digest) = None
+file_of (kept.Forget file) = Some file
+file_of (kept.OldUpdate file update) = Some file
+file_of (kept.OldStage file object version bytes) = Some file
+file_of (kept.OldHead file head) = Some file
+file_of (kept.OldInstall file location head) = Some file
+file_of (kept.OldChoice file location head source) = None
+
+-- whether a record removes its file
+abbrev pub forgets : Record → Bool
+forgets (kept.Forget file) = true
+forgets _ = false
 
 -- ---- all files
 
@@ -63,10 +90,15 @@ with_row [] row = row ∷ []
 with_row (r ∷ rs) row =
     if is_file r.file row.file then row ∷ rs else if is_before row.file r.file then row ∷ r ∷ rs else r ∷ with_row rs row
 
+-- the rows without that of a file
+unfoldable pub without_row : List FileRow → FileId → List FileRow
+without_row rows file = filter (λ r. not (is_file r.file file)) rows
+
 -- the rows after a record
 abbrev pub rows_after : List FileRow → Record → Option FileId → List FileRow
 rows_after rows rec None = rows
-rows_after rows rec (Some file) = with_row rows (row_after (row_in rows file) rec)
+rows_after rows rec (Some file) =
+    if forgets rec then without_row rows file else with_row rows (row_after (row_in rows file) rec)
 
 -- the last start after a record
 abbrev pub boot_after : ℕ → Record → ℕ
@@ -87,15 +119,29 @@ fold_of records = fold folded_after nothing_kept records
 
 -- ---- recorded requests
 
--- whether the record is of a request
+-- whether the record is of a request, or of the change of a list that a request began
 abbrev pub is_logged : Record → Bool
 is_logged (kept.Meta from number now nodes request) = true
+is_logged (kept.Choice file location head source) = true
+is_logged (kept.Listed file version) = true
+is_logged (kept.OldChoice file location head source) = true
 is_logged _ = false
 
 -- The records of requests among these, in their order. No fold contains them: wherever folds are compared, the records of
 -- requests in their order belong to what is compared.
 unfoldable pub logged_of : List Record → List Record
 logged_of records = filter is_logged records
+
+-- ---- old kinds
+
+-- the same record of the kind that is written now
+abbrev pub widened : Record → Record
+widened (kept.OldUpdate file update) = kept.Update file update
+widened (kept.OldStage file object version bytes) = kept.Stage file object version bytes
+widened (kept.OldHead file head) = kept.Head file head
+widened (kept.OldInstall file location head) = kept.Install file location head
+widened (kept.OldChoice file location head source) = kept.Choice file location head source
+widened rec = rec
 
 -- ---- which records may follow
 
@@ -117,6 +163,17 @@ IsInPlace folded (kept.Stage file object version bytes) = Unit {0}
 IsInPlace folded (kept.View file location) = Unit {0}
 IsInPlace folded (kept.Boot boot) = Unit {0}
 IsInPlace folded (kept.Meta from number now nodes request) = Unit {0}
+IsInPlace folded (kept.Close file version) = Unit {0}
+IsInPlace folded (kept.Install file location head) = All (Contains (row_in folded.files file).held) head.versions
+IsInPlace folded (kept.Choice file location head source) = Unit {0}
+IsInPlace folded (kept.Listed file version) = Unit {0}
+IsInPlace folded (kept.Seal file object version digest) = Unit {0}
+IsInPlace folded (kept.Forget file) = Unit {0}
+IsInPlace folded (kept.OldUpdate file update) = FollowsHead (row_in folded.files file).head update
+IsInPlace folded (kept.OldStage file object version bytes) = Unit {0}
+IsInPlace folded (kept.OldHead file head) = All (Contains (row_in folded.files file).held) head.versions
+IsInPlace folded (kept.OldInstall file location head) = All (Contains (row_in folded.files file).held) head.versions
+IsInPlace folded (kept.OldChoice file location head source) = Unit {0}
 
 -- each record is in its place after those before it
 abbrev pub AreInPlace : Folded → List Record → Type 0
@@ -135,6 +192,10 @@ abbrev pub body_put : FileId → ℕ → Stamp → Record → Option (List ℕ)
 body_put file object version (kept.Update f update) =
     if is_file f file && makes_body update object version then Some update.body else None
 body_put file object version (kept.Stage f o v bytes) =
+    if is_file f file && (o == object) && is_stamp v version then Some bytes else None
+body_put file object version (kept.OldUpdate f update) =
+    if is_file f file && makes_body update object version then Some update.body else None
+body_put file object version (kept.OldStage f o v bytes) =
     if is_file f file && (o == object) && is_stamp v version then Some bytes else None
 body_put file object version _ = None
 

@@ -1,6 +1,7 @@
 -- the head of a replica: what it says of a file, and what an update makes of it
 use Rattle.std.specs.Prelude.{ℕ, ◌==◌, nat_lt, if◌then◌else◌, Option, Some, None, List, [], ◌∷◌, filter}
 use Rattle.xt_base.specs.declared.ids.Epoch.{Epoch}
+use Rattle.xt_messages.specs.Limits.{is_at_most}
 use Rattle.xt_base.specs.declared.ids.Stamp.{Stamp}
 use Rattle.xt_messages.specs.declared.file.ObjectVersion.{ObjectVersion}
 use Rattle.xt_messages.specs.declared.file.Session.{Session}
@@ -11,6 +12,10 @@ use Rattle.xt_base.specs.declared.TheConstants.{NO_OBJECT}
 -- the epoch before any primary
 abbrev pub first_epoch : Epoch
 first_epoch = record { number = 0; node = record { 0 = 0 } }
+
+-- the greater of two epochs
+abbrev pub later_epoch : Epoch → Epoch → Epoch
+later_epoch a b = if is_at_most a b then b else a
 
 -- the stamp of a count of writes outside any primary's tenure
 abbrev pub plain_stamp : ℕ → Stamp
@@ -57,6 +62,10 @@ with_session (s ∷ ss) session =
     if s.client.0 == session.client.0 then session ∷ ss
     else if nat_lt session.client.0 s.client.0 then session ∷ s ∷ ss
     else s ∷ with_session ss session
+
+-- The head that a member begins a later list with: what it has promised stays promised.
+abbrev pub head_installed : FileHead → FileHead → FileHead
+head_installed own head = record head { promised = later_epoch own.promised head.promised }
 
 -- The head after an update: the objects from `drop_from` on go, its object gets its stamp, and the rest is the update's.
 abbrev pub head_after : FileHead → Update → FileHead

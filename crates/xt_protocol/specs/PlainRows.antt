@@ -32,7 +32,7 @@ pub record PlainFile : Type 0 where
 
 -- what the member keeps after a step: the step's record says all that changes, and it changes the head alone
 abbrev pub plain_after : PlainFile → Option Record → PlainFile
-plain_after p rec = record p { head = (kept_after (record { file = p.file; head = p.head; held = []; location = None }) rec).head }
+plain_after p rec = record p { head = (kept_after (record { file = p.file; head = p.head; held = []; location = None; closed = None }) rec).head }
 
 -- nothing comes of an operation
 abbrev pub nothing : PlainActed

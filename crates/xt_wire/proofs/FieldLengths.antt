@@ -31,7 +31,7 @@ use Rattle.xt_messages.specs.Limits.{FitsFile, FitsCapability, FitsOp, FitsMetaR
 use Rattle.xt_messages.specs.FrameLength.{text_length, report_length, location_length, capability_length, head_length, update_length, op_length, meta_req_length, registry_req_length}
 use Rattle.xt_fields.specs.BasicFields.{byte_bytes, half_bytes, word_bytes, long_bytes, octets_bytes, text_bytes}
 use Rattle.xt_wire.specs.IdFields.{node_bytes, boot_bytes, file_bytes, ballot_bytes, epoch_bytes, stamp_bytes, lease_bytes, report_bytes, op_id_bytes, mark_bytes}
-use Rattle.xt_wire.specs.FileFields.{kind_bytes, members_bytes, location_bytes, sealed_bytes, capability_bytes, op_bytes, slot_bytes, update_bytes, object_version_bytes, session_bytes, versions_bytes, sessions_bytes, head_bytes}
+use Rattle.xt_wire.specs.FileFields.{kind_bytes, members_bytes, location_bytes, sealed_bytes, capability_bytes, op_bytes, update_bytes, object_version_bytes, session_bytes, versions_bytes, sessions_bytes, head_bytes}
 use Rattle.xt_wire.specs.MetaFields.{meta_req_bytes}
 use Rattle.xt_wire.specs.RegistryFields.{registry_req_bytes}
 use Rattle.xt_wire.proofs.FileLaws.{members_few}
@@ -101,26 +101,22 @@ sealed_len x h = omega (arith, file_len x.file h.subject, length-append (file_by
 pub capability_len : (x : Capability) → FitsCapability x → length (capability_bytes x) ≡ capability_length x
 capability_len x h = omega (arith, length-append (sealed_bytes x) x.tag, sealed_len x h, h.seal.whole)
 
-pub slot_len : (x : ℕ) → length (slot_bytes x) ≡ 4
-unfolding slot_bytes
-slot_len x = word-length _
-
 pub op_len : (x : Op) → length (op_bytes x) ≡ op_length x
-op_len (op.Read object at len) = omega (arith, length-append (byte_bytes 1) (word_bytes object), word-length object, length-append (byte_bytes 1 ++ word_bytes object) (word_bytes at), word-length at, length-append (byte_bytes 1 ++ word_bytes object ++ word_bytes at) (word_bytes len), word-length len)
-op_len (op.Write object at bytes) = omega (arith, length-append (byte_bytes 2) (word_bytes object), word-length object, length-append (byte_bytes 2 ++ word_bytes object) (word_bytes at), word-length at, length-append (byte_bytes 2 ++ word_bytes object ++ word_bytes at) (octets_bytes bytes), octets_len bytes)
+op_len (op.Read object at len) = omega (arith, length-append (byte_bytes 1) (long_bytes object), long-length object, length-append (byte_bytes 1 ++ long_bytes object) (word_bytes at), word-length at, length-append (byte_bytes 1 ++ long_bytes object ++ word_bytes at) (word_bytes len), word-length len)
+op_len (op.Write object at bytes) = omega (arith, length-append (byte_bytes 2) (long_bytes object), long-length object, length-append (byte_bytes 2 ++ long_bytes object) (word_bytes at), word-length at, length-append (byte_bytes 2 ++ long_bytes object ++ word_bytes at) (octets_bytes bytes), octets_len bytes)
 op_len (op.Truncate size) = omega (arith, length-append (byte_bytes 3) (long_bytes size), long-length size)
 
 pub update_len : (x : Update) → length (update_bytes x) ≡ update_length x
-update_len x = omega (arith, stamp_len x.stamp, length-append (stamp_bytes x.stamp) (op_id_bytes x.id), op_id_len x.id, length-append (stamp_bytes x.stamp ++ op_id_bytes x.id) (mark_bytes x.mark), mark_len x.mark, length-append (stamp_bytes x.stamp ++ op_id_bytes x.id ++ mark_bytes x.mark) (slot_bytes x.drop_from), slot_len x.drop_from, length-append (stamp_bytes x.stamp ++ op_id_bytes x.id ++ mark_bytes x.mark ++ slot_bytes x.drop_from) (slot_bytes x.object), slot_len x.object, length-append (stamp_bytes x.stamp ++ op_id_bytes x.id ++ mark_bytes x.mark ++ slot_bytes x.drop_from ++ slot_bytes x.object) (octets_bytes x.body), octets_len x.body)
+update_len x = omega (arith, stamp_len x.stamp, length-append (stamp_bytes x.stamp) (op_id_bytes x.id), op_id_len x.id, length-append (stamp_bytes x.stamp ++ op_id_bytes x.id) (mark_bytes x.mark), mark_len x.mark, length-append (stamp_bytes x.stamp ++ op_id_bytes x.id ++ mark_bytes x.mark) (long_bytes x.drop_from), long-length x.drop_from, length-append (stamp_bytes x.stamp ++ op_id_bytes x.id ++ mark_bytes x.mark ++ long_bytes x.drop_from) (long_bytes x.object), long-length x.object, length-append (stamp_bytes x.stamp ++ op_id_bytes x.id ++ mark_bytes x.mark ++ long_bytes x.drop_from ++ long_bytes x.object) (octets_bytes x.body), octets_len x.body)
 
-pub object_version_len : (x : ObjectVersion) → length (object_version_bytes x) ≡ 24
-object_version_len x = omega (arith, word-length x.object, length-append (word_bytes x.object) (stamp_bytes x.version), stamp_len x.version)
+pub object_version_len : (x : ObjectVersion) → length (object_version_bytes x) ≡ 28
+object_version_len x = omega (arith, long-length x.object, length-append (long_bytes x.object) (stamp_bytes x.version), stamp_len x.version)
 
 pub session_len : (x : Session) → length (session_bytes x) ≡ 20
 session_len x = omega (arith, word-length x.client.0, length-append (node_bytes x.client) (long_bytes x.number), long-length x.number, length-append (node_bytes x.client ++ long_bytes x.number) (long_bytes x.count), long-length x.count)
 
-pub versions_len : (x : List ObjectVersion) → length (versions_bytes x) ≡ 4 + 24 * length x
-versions_len x = omega (arith, length-append (word_bytes (length x)) (flat_map object_version_bytes x), word-length (length x), listed_len object_version_bytes 24 object_version_len x)
+pub versions_len : (x : List ObjectVersion) → length (versions_bytes x) ≡ 4 + 28 * length x
+versions_len x = omega (arith, length-append (word_bytes (length x)) (flat_map object_version_bytes x), word-length (length x), listed_len object_version_bytes 28 object_version_len x)
 
 pub sessions_len : (x : List Session) → length (sessions_bytes x) ≡ 4 + 20 * length x
 sessions_len x = omega (arith, length-append (word_bytes (length x)) (flat_map session_bytes x), word-length (length x), listed_len session_bytes 20 session_len x)
@@ -141,6 +137,8 @@ meta_req_len (ask.Stat path) h = omega (arith, length-append (byte_bytes 7) (tex
 meta_req_len (ask.Chmod path mode) h = omega (arith, length-append (byte_bytes 8) (text_bytes path), text_len path, length-append (byte_bytes 8 ++ text_bytes path) (half_bytes mode), half-length mode)
 meta_req_len (ask.Grant path want) h = omega (arith, length-append (byte_bytes 9) (text_bytes path), text_len path, length-append (byte_bytes 9 ++ text_bytes path) (byte_bytes want))
 meta_req_len (ask.Report capability mark) h = omega (arith, length-append (byte_bytes 10) (capability_bytes capability), capability_len capability h.0, length-append (byte_bytes 10 ++ capability_bytes capability) (mark_bytes mark), mark_len mark)
+meta_req_len (ask.Change path nodes) h = omega (arith, length-append (byte_bytes 11) (text_bytes path), text_len path, length-append (byte_bytes 11 ++ text_bytes path) (members_bytes nodes), members_len nodes)
+meta_req_len (ask.Locate path) h = omega (arith, length-append (byte_bytes 12) (text_bytes path), text_len path)
 
 pub registry_req_len : (x : RegistryReq) → length (registry_req_bytes x) ≡ registry_req_length x
 registry_req_len (wish.Set node kind address expected) = omega (arith, length-append (byte_bytes 1) (node_bytes node), word-length node.0, length-append (byte_bytes 1 ++ node_bytes node) (byte_bytes kind), length-append (byte_bytes 1 ++ node_bytes node ++ byte_bytes kind) (text_bytes address), text_len address, length-append (byte_bytes 1 ++ node_bytes node ++ byte_bytes kind ++ text_bytes address) (long_bytes expected), long-length expected)
@@ -153,7 +151,7 @@ registry_req_len (wish.Remove node expected) = omega (arith, length-append (byte
 pub members_bound : (x : Capability) → FitsCapability x → capability_length x ≤ 119
 members_bound x h = omega (arith, members_few x.location.members h.place.nodes.different)
 
-pub op_bound : (x : Op) → FitsOp x → op_length x ≤ 131085
+pub op_bound : (x : Op) → FitsOp x → op_length x ≤ 131089
 op_bound (op.Read object at len) h = omega arith
 op_bound (op.Write object at bytes) h = omega (arith, h.2.few)
 op_bound (op.Truncate size) h = omega arith
@@ -169,6 +167,8 @@ meta_req_bound (ask.Stat path) h = omega (arith, h.few)
 meta_req_bound (ask.Chmod path mode) h = omega (arith, h.0.few)
 meta_req_bound (ask.Grant path want) h = omega (arith, h.0.few)
 meta_req_bound (ask.Report capability mark) h = omega (arith, members_bound capability h.0)
+meta_req_bound (ask.Change path nodes) h = omega (arith, h.0.few, members_few nodes h.1.different)
+meta_req_bound (ask.Locate path) h = omega (arith, h.few)
 
 pub registry_req_bound : (x : RegistryReq) → FitsRegistryReq x → registry_req_length x ≤ 271
 registry_req_bound (wish.Set node kind address expected) h = omega (arith, h.2.few)

@@ -17,8 +17,8 @@ use Rattle.xt_base.specs.MemberList.{are_members, are_distinct}
 use Rattle.xt_base.specs.declared.TheConstants.{NO_OBJECT}
 use Rattle.xt_base.specs.FieldLimits.{FitsBytes}
 use Rattle.xt_messages.specs.Limits.{rise, is_at_most, IsObjectOrNone, FitsMembers, FitsStripe, FitsLocation, FitsCapability, FitsOp, FitsUpdate, FitsVersion, FitsSession, FitsVersions, FitsSessions, FitsHead}
-use Rattle.xt_fields.specs.BasicFields.{word_bytes, octets_bytes, byte_at, word_at, tagged}
-use Rattle.xt_wire.specs.FileFields.{kind_bytes, kind_arms, kind_at, version_at, stripe_at, members_bytes, members_at, location_bytes, location_at, capability_bytes, capability_at, op_bytes, read_op_at, some_octets_at, write_op_at, truncate_op_at, op_arms, op_at, slot_bytes, slot_at, update_bytes, has_its_body, update_at, object_version_bytes, object_version_at, session_bytes, session_at, versions_bytes, versions_at, sessions_bytes, sessions_at, head_bytes, head_at}
+use Rattle.xt_fields.specs.BasicFields.{word_bytes, long_bytes, octets_bytes, byte_at, long_at, tagged}
+use Rattle.xt_wire.specs.FileFields.{kind_bytes, kind_arms, kind_at, version_at, stripe_at, members_bytes, members_at, location_bytes, location_at, capability_bytes, capability_at, op_bytes, read_op_at, some_octets_at, write_op_at, truncate_op_at, op_arms, op_at, update_bytes, has_its_body, update_at, object_version_bytes, object_version_at, session_bytes, session_at, versions_bytes, versions_at, sessions_bytes, sessions_at, head_bytes, head_at}
 use Rattle.xt_fields.specs.OneSpelling.{IsField, Taken}
 use Rattle.xt_fields.proofs.Laws.{IsArm, AreArms, both, made_field, fit_field, as_field, arm, lone_arm, arm_again, no_more, or_arm, bind_ok, ok_is, and_is}
 use Rattle.xt_fields.proofs.BasicLaws.{byte_field, word_field, long_field, count_field, body_field, tag_field, within_byte, within_word, counted_field, tagged_field}
@@ -103,11 +103,11 @@ some_octets_field = as_field
 
 read_op_arm : IsArm op_bytes FitsOp 1 read_op_at
 unfolding read_op_at
-read_op_arm = arm 1 (both (both word_field word_field) (within_word 1 131072 (lit< tt))) (λ f. op.Read f.0.0 f.0.1 f.1) (λ a. refl) (λ a h. assumption)
+read_op_arm = arm 1 (both (both long_field word_field) (within_word 1 131072 (lit< tt))) (λ f. op.Read f.0.0 f.0.1 f.1) (λ a. refl) (λ a h. assumption)
 
 write_op_arm : IsArm op_bytes FitsOp 2 write_op_at
 unfolding write_op_at
-write_op_arm = arm 2 (both (both word_field word_field) some_octets_field) (λ f. op.Write f.0.0 f.0.1 f.1) (λ a. refl) (λ a h. assumption)
+write_op_arm = arm 2 (both (both long_field word_field) some_octets_field) (λ f. op.Write f.0.0 f.0.1 f.1) (λ a. refl) (λ a h. assumption)
 
 truncate_op_arm : IsArm op_bytes FitsOp 3 truncate_op_at
 unfolding truncate_op_at
@@ -119,8 +119,8 @@ op_arms_take = or_arm 1 read_op_arm (or_arm 2 write_op_arm (or_arm 3 truncate_op
 
 op_again : (b : Op) (rest : List ℕ) → FitsOp b → tagged op_arms (op_bytes b ++ rest) ≡ Ok (b, rest)
 unfolding byte_at op_arms read_op_at write_op_at truncate_op_at
-op_again (op.Read object at len) rest h = arm_again (both (both word_field word_field) (within_word 1 131072 (lit< tt))) (λ f. op.Read f.0.0 f.0.1 f.1) ((object, at), len) rest assumption
-op_again (op.Write object at bytes) rest h = arm_again (both (both word_field word_field) some_octets_field) (λ f. op.Write f.0.0 f.0.1 f.1) ((object, at), bytes) rest assumption
+op_again (op.Read object at len) rest h = arm_again (both (both long_field word_field) (within_word 1 131072 (lit< tt))) (λ f. op.Read f.0.0 f.0.1 f.1) ((object, at), len) rest assumption
+op_again (op.Write object at bytes) rest h = arm_again (both (both long_field word_field) some_octets_field) (λ f. op.Write f.0.0 f.0.1 f.1) ((object, at), bytes) rest assumption
 op_again (op.Truncate size) rest h = arm_again long_field op.Truncate size rest assumption
 
 pub op_field : IsField op_bytes FitsOp op_at
@@ -129,38 +129,17 @@ op_field = tagged_field op_arms_take op_again
 
 -- ---- updates
 
--- the word that is read is the one that is written for what it means
-slot_written : (n : ℕ) (same : Bool) → eqb n 4294967295 ≡ same → n < 2 ^ 32 → slot_bytes (cond same NO_OBJECT n) ≡ word_bytes n
-unfolding slot_bytes
-slot_written n true e lt = ap word_bytes (sym (eqb-true n 4294967295 e))
-slot_written n false e lt = let other : eqb n NO_OBJECT ≡ false = ne_eqb _ _ (omega arith) in rw other refl
+-- each number of 64 bits is an object, or the one that stands for none
+meant : (n : ℕ) (same : Bool) → eqb n NO_OBJECT ≡ same → n < 2 ^ 64 → IsObjectOrNone n
+meant n true e lt = inr (eqb-true n NO_OBJECT e)
+meant n false e lt = inl (let other : n ≢ NO_OBJECT = eqb-false _ _ e in omega arith)
 
-slot_fits : (n : ℕ) (same : Bool) → eqb n 4294967295 ≡ same → n < 2 ^ 32 → IsObjectOrNone (cond same NO_OBJECT n)
-slot_fits n true e lt = inr refl
-slot_fits n false e lt = inl (let other : n ≢ 4294967295 = eqb-false _ _ e in omega arith)
+short : (n : ℕ) → IsObjectOrNone n → n < 2 ^ 64
+short n (inl lt) = omega arith
+short n (inr none) = omega arith
 
-slot_again : (n : ℕ) (rest : List ℕ) → IsObjectOrNone n → slot_at (slot_bytes n ++ rest) ≡ Ok (n, rest)
-unfolding slot_at slot_bytes
-slot_again n rest (inl lt) =
-    let some : eqb n NO_OBJECT ≡ false = ne_eqb _ _ (omega arith) in
-    let other : eqb n 4294967295 ≡ false = ne_eqb _ _ (omega arith) in
-    let read : word_at (word_bytes n ++ rest) ≡ Ok (n, rest) = word_field.again n rest (omega arith) in
-    rw (some, read, other) refl
-slot_again n rest (inr none) =
-    let read : word_at (word_bytes 4294967295 ++ rest) ≡ Ok (4294967295, rest) = word_field.again 4294967295 rest (lit< tt) in
-    rw (none, read) refl
-
-pub slot_field : IsField slot_bytes IsObjectOrNone slot_at
-unfolding slot_at
-slot_field = record {
-  takes = λ given x all e.
-      let a = bind_ok (word_at given) (λ read. Ok (cond (eqb read.0 4294967295) NO_OBJECT read.0, read.1)) x e in
-      let s = word_field.takes given a.0 all a.1 in
-      let read : ℕ × List ℕ = (cond (eqb a.0.0 4294967295) NO_OBJECT a.0.0, a.0.1) in
-      subst (λ (y : ℕ × List ℕ). Taken given (slot_bytes y.0) y.1 (IsObjectOrNone y.0)) (ok_is read x a.2)
-      (record { parts = s.parts ∙ ap (λ (t : List ℕ). t ++ a.0.1) (sym (slot_written a.0.0 (eqb a.0.0 4294967295) refl s.within)); left = s.left; within = slot_fits a.0.0 (eqb a.0.0 4294967295) refl s.within });
-  again = slot_again;
-}
+pub slot_field : IsField long_bytes IsObjectOrNone long_at
+slot_field = as_field (λ n h. meant n (eqb n NO_OBJECT) refl h) short long_field
 
 agree : (a b : Bool) → cond a b (not b) ≡ true → a ≡ b
 agree true b h = sym h
@@ -187,7 +166,7 @@ update_field = as_field
 pub object_version_field : IsField object_version_bytes FitsVersion object_version_at
 unfolding object_version_at
 object_version_field = as_field (λ v h. assumption) (λ v h. assumption)
-    (made_field (λ v. record { object = v.0; version = v.1 }) (λ (v : ObjectVersion). (v.object, v.version)) (λ a. refl) (λ b. refl) (both word_field stamp_field))
+    (made_field (λ v. record { object = v.0; version = v.1 }) (λ (v : ObjectVersion). (v.object, v.version)) (λ a. refl) (λ b. refl) (both long_field stamp_field))
 
 pub session_field : IsField session_bytes FitsSession session_at
 unfolding session_at
@@ -201,7 +180,7 @@ unfolding versions_at
 versions_field = as_field
     (λ vs h. record { few = h.0.few; each = h.0.each; rising = h.1 })
     (λ vs h. (record { few = h.few; each = h.each }, h.rising))
-    (fit_field (λ versions. rise (map (λ v. v.object) versions)) (counted_field 4096 (2 ^ 32) (lit< tt) word_field object_version_field))
+    (fit_field (λ versions. rise (map (λ v. v.object) versions)) (counted_field 16384 (2 ^ 32) (lit< tt) word_field object_version_field))
 
 pub sessions_field : IsField sessions_bytes FitsSessions sessions_at
 unfolding sessions_at

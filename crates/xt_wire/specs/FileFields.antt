@@ -77,19 +77,19 @@ capability_at =
 -- ---- operations
 
 abbrev pub op_bytes : Op → List ℕ
-op_bytes (op.Read object at len) = byte_bytes 1 ++ word_bytes object ++ word_bytes at ++ word_bytes len
-op_bytes (op.Write object at bytes) = byte_bytes 2 ++ word_bytes object ++ word_bytes at ++ octets_bytes bytes
+op_bytes (op.Read object at len) = byte_bytes 1 ++ long_bytes object ++ word_bytes at ++ word_bytes len
+op_bytes (op.Write object at bytes) = byte_bytes 2 ++ long_bytes object ++ word_bytes at ++ octets_bytes bytes
 op_bytes (op.Truncate size) = byte_bytes 3 ++ long_bytes size
 
 unfoldable pub read_op_at : Field Op
-read_op_at = made (λ f. op.Read f.0.0 f.0.1 f.1) (word_at & word_at & within 1 BODY word_at)
+read_op_at = made (λ f. op.Read f.0.0 f.0.1 f.1) (long_at & word_at & within 1 BODY word_at)
 
 -- bytes that are not empty
 unfoldable pub some_octets_at : Field (List ℕ)
 some_octets_at = fit (λ bytes. not (length bytes == 0)) (octets_at BODY)
 
 unfoldable pub write_op_at : Field Op
-write_op_at = made (λ f. op.Write f.0.0 f.0.1 f.1) (word_at & word_at & some_octets_at)
+write_op_at = made (λ f. op.Write f.0.0 f.0.1 f.1) (long_at & word_at & some_octets_at)
 
 unfoldable pub truncate_op_at : Field Op
 truncate_op_at = made op.Truncate long_at
@@ -106,17 +106,10 @@ op_at = tagged op_arms
 
 -- ---- updates
 
--- an object, or the greatest word for none
-unfoldable pub slot_bytes : ℕ → List ℕ
-slot_bytes object = word_bytes (if object == NO_OBJECT then 4294967295 else object)
-
-unfoldable pub slot_at : Field ℕ
-slot_at = made (λ n. if n == 4294967295 then NO_OBJECT else n) word_at
-
 abbrev pub update_bytes : Update → List ℕ
 update_bytes update =
-    stamp_bytes update.stamp ++ op_id_bytes update.id ++ mark_bytes update.mark ++ slot_bytes update.drop_from
-    ++ slot_bytes update.object ++ octets_bytes update.body
+    stamp_bytes update.stamp ++ op_id_bytes update.id ++ mark_bytes update.mark ++ long_bytes update.drop_from
+    ++ long_bytes update.object ++ octets_bytes update.body
 
 -- whether the body is empty exactly where no object gets it
 abbrev pub has_its_body : Update → Bool
@@ -125,15 +118,15 @@ has_its_body update = if length update.body == 0 then update.object == NO_OBJECT
 unfoldable pub update_at : Field Update
 update_at =
     fit has_its_body (made (λ u. record { stamp = u.0.0.0.0.0; id = u.0.0.0.0.1; mark = u.0.0.0.1; drop_from = u.0.0.1; object = u.0.1; body = u.1 })
-    (stamp_at & op_id_at & mark_at & slot_at & slot_at & octets_at BODY))
+    (stamp_at & op_id_at & mark_at & long_at & long_at & octets_at BODY))
 
 -- ---- heads
 
 abbrev pub object_version_bytes : ObjectVersion → List ℕ
-object_version_bytes entry = word_bytes entry.object ++ stamp_bytes entry.version
+object_version_bytes entry = long_bytes entry.object ++ stamp_bytes entry.version
 
 unfoldable pub object_version_at : Field ObjectVersion
-object_version_at = made (λ v. record { object = v.0; version = v.1 }) (word_at & stamp_at)
+object_version_at = made (λ v. record { object = v.0; version = v.1 }) (long_at & stamp_at)
 
 abbrev pub session_bytes : Session → List ℕ
 session_bytes session = node_bytes session.client ++ long_bytes session.number ++ long_bytes session.count

@@ -1,10 +1,10 @@
 ghost use Rattle.std.specs.Prelude.{◌≡◌, ◌≢◌, ◌≤◌, ◌<◌, ◌^◌, ◌++◌, length, map, take, OnOk, IfErr, IfOk, Ok, Err};
 ghost use Rattle.xt_fields.specs.declared.fault.FieldErr.TheVariants.{OutOfMemory};
-ghost use Rattle.xt_messages.specs.Limits.{IsObject, IsObjectOrNone, FitsOp, FitsUpdate, FitsVersion, FitsVersions, FitsSessions, FitsHead, rise, is_at_most};
+ghost use Rattle.xt_messages.specs.Limits.{FitsOp, FitsUpdate, FitsVersions, FitsSessions, FitsHead, rise, is_at_most};
 ghost use Rattle.xt_fields.specs.Reading.{Fails, Gives, Takes, Tries};
-ghost use Rattle.xt_fields.specs.BasicFields.{byte_bytes, word_bytes, long_bytes, octets_bytes, word_at, list_at};
+ghost use Rattle.xt_fields.specs.BasicFields.{byte_bytes, word_bytes, long_bytes, octets_bytes, long_at, list_at};
 ghost use Rattle.xt_wire.specs.IdFields.{node_at};
-ghost use Rattle.xt_wire.specs.FileFields.{kind_bytes, kind_at, kind_arms, version_at, stripe_at, members_bytes, members_at, location_bytes, location_at, sealed_bytes, capability_bytes, capability_at, op_bytes, op_at, op_arms, read_op_at, write_op_at, some_octets_at, slot_bytes, slot_at, update_bytes, update_at, object_version_bytes, object_version_at, session_bytes, session_at, versions_bytes, versions_at, sessions_bytes, sessions_at, head_bytes, head_at};
+ghost use Rattle.xt_wire.specs.FileFields.{kind_bytes, kind_at, kind_arms, version_at, stripe_at, members_bytes, members_at, location_bytes, location_at, sealed_bytes, capability_bytes, capability_at, op_bytes, op_at, op_arms, read_op_at, write_op_at, some_octets_at, update_bytes, update_at, object_version_bytes, object_version_at, session_bytes, session_at, versions_bytes, versions_at, sessions_bytes, sessions_at, head_bytes, head_at};
 
 use crate::ids::{ReadIds, WriteIds};
 use std::alloc::Global;
@@ -18,9 +18,6 @@ use xt_messages::{
 
 /// The longest `bytes` field, in bytes.
 const BODY_LIMIT: u32 = BODY as u32;
-
-/// The word that is sent for no object.
-const NO_OBJECT_WORD: u32 = u32::MAX;
 
 /// Location versions are below this.
 const VERSIONS_END: u32 = 1 << 31;
@@ -72,7 +69,7 @@ pub fn clients_rise(sessions: &[Session]) -> bool
 /// Reads locations, capabilities, operations, updates and heads. A field that is refused leaves the reader as it was,
 /// and what takes no allocator never runs out of memory.
 pub trait ReadFiles {
-    /// An object.
+    /// An object, or in an update `NO_OBJECT`.
     fn object(&mut self) -> Result<u64, FieldErr>;
 
     /// How a file's objects lie.
@@ -105,7 +102,7 @@ pub trait ReadFiles {
     /// The last write of a client.
     fn session(&mut self) -> Result<Session, FieldErr>;
 
-    /// At most 4,096 versions, rising by object.
+    /// At most 16,384 versions, rising by object.
     fn versions(&mut self, alloc: Global) -> Result<Versions, FieldErr>;
 
     /// At most 256 sessions, rising by client.
@@ -113,19 +110,6 @@ pub trait ReadFiles {
 
     /// The state of a replica.
     fn head(&mut self, alloc: Global) -> Result<FileHead, FieldErr>;
-}
-
-/// An object, or `NO_OBJECT`.
-#[tactic(auto, unfolding(crate::specs::FileFields::slot_at))]
-fn slot(fields: &mut FieldReader<'_>) -> Result<u64, FieldErr>
-    ensures { Gives result fields.new (slot_at fields.old) }
-{
-    let word = fields.word()?;
-    Ok(if word == NO_OBJECT_WORD {
-        NO_OBJECT
-    } else {
-        u64::from(word)
-    })
 }
 
 /// The kind of this number.
@@ -239,9 +223,9 @@ fn session_list(
 
 impl ReadFiles for FieldReader<'_> {
     fn object(&mut self) -> Result<u64, FieldErr>
-        ensures { Takes result self.old self.new (word_at self.old) }
+        ensures { Takes result self.old self.new (long_at self.old) }
     {
-        Ok(u64::from(self.word()?))
+        self.long()
     }
 
     #[tactic(auto, unfolding(crate::specs::FileFields::kind_at))]
@@ -359,8 +343,8 @@ impl ReadFiles for FieldReader<'_> {
         let stamp = ahead.stamp()?;
         let id = ahead.op_id()?;
         let mark = ahead.mark()?;
-        let drop_from = slot(&mut ahead)?;
-        let object = slot(&mut ahead)?;
+        let drop_from = ahead.object()?;
+        let object = ahead.object()?;
         let body = ahead.octets(alloc, BODY_LIMIT)?;
         if body.as_slice().is_empty() != (object == NO_OBJECT) {
             return Err(FieldErr::Unfit);
@@ -465,9 +449,8 @@ impl ReadFiles for FieldReader<'_> {
 
 /// Writes locations, capabilities, operations, updates and heads.
 pub trait WriteFiles {
-    /// An object.
-    fn object(&mut self, object: u64) -> Result<(), OutOfMemory>
-        requires { IsObject object };
+    /// An object, or in an update `NO_OBJECT`.
+    fn object(&mut self, object: u64) -> Result<(), OutOfMemory>;
 
     /// How a file's objects lie.
     fn kind(&mut self, kind: Kind) -> Result<(), OutOfMemory>;
@@ -493,8 +476,7 @@ pub trait WriteFiles {
         requires { FitsUpdate update.now };
 
     /// The version of an object.
-    fn object_version(&mut self, entry: ObjectVersion) -> Result<(), OutOfMemory>
-        requires { FitsVersion entry };
+    fn object_version(&mut self, entry: ObjectVersion) -> Result<(), OutOfMemory>;
 
     /// The last write of a client.
     fn session(&mut self, session: Session) -> Result<(), OutOfMemory>;
@@ -512,24 +494,10 @@ pub trait WriteFiles {
         requires { FitsHead head.now };
 }
 
-/// An object, or `NO_OBJECT`.
-#[tactic(auto, unfolding(crate::specs::FileFields::slot_bytes))]
-fn put_slot(fields: &mut FieldWriter, object: u64) -> Result<(), OutOfMemory>
-    requires { IsObjectOrNone object }
-    ensures { OnOk result (fields.new ≡ fields.old ++ slot_bytes object) }
-{
-    if object == NO_OBJECT {
-        fields.word(NO_OBJECT_WORD)
-    } else {
-        fields.word(object as u32)
-    }
-}
-
 /// A read.
 fn put_read_op(fields: &mut FieldWriter, object: u64, at: u32, len: u32) -> Result<(), OutOfMemory>
-    requires { IsObject object }
     ensures { OnOk result (fields.new ≡ fields.old
-        ++ (byte_bytes 1 ++ word_bytes object ++ word_bytes at ++ word_bytes len)) }
+        ++ (byte_bytes 1 ++ long_bytes object ++ word_bytes at ++ word_bytes len)) }
 {
     fields.byte(1)?;
     fields.object(object)?;
@@ -544,10 +512,9 @@ fn put_write_op(
     at: u32,
     bytes: &[u8],
 ) -> Result<(), OutOfMemory>
-    requires object_fits { IsObject object }
-    requires bytes_fits { length bytes.now < 2 ^ 32 }
+    requires { length bytes.now < 2 ^ 32 }
     ensures { OnOk result (fields.new ≡ fields.old
-        ++ (byte_bytes 2 ++ word_bytes object ++ word_bytes at ++ octets_bytes bytes.now)) }
+        ++ (byte_bytes 2 ++ long_bytes object ++ word_bytes at ++ octets_bytes bytes.now)) }
 {
     fields.byte(2)?;
     fields.object(object)?;
@@ -565,10 +532,9 @@ fn put_truncate_op(fields: &mut FieldWriter, size: u64) -> Result<(), OutOfMemor
 
 impl WriteFiles for FieldWriter {
     fn object(&mut self, object: u64) -> Result<(), OutOfMemory>
-        requires { IsObject object }
-        ensures { OnOk result (self.new ≡ self.old ++ word_bytes object) }
+        ensures { OnOk result (self.new ≡ self.old ++ long_bytes object) }
     {
-        self.word(object as u32)
+        self.long(object)
     }
 
     fn kind(&mut self, kind: Kind) -> Result<(), OutOfMemory>
@@ -635,13 +601,12 @@ impl WriteFiles for FieldWriter {
         self.stamp(update.stamp)?;
         self.op_id(update.id)?;
         self.mark(update.mark)?;
-        put_slot(self, update.drop_from)?;
-        put_slot(self, update.object)?;
+        self.object(update.drop_from)?;
+        self.object(update.object)?;
         self.octets(update.body.as_slice())
     }
 
     fn object_version(&mut self, entry: ObjectVersion) -> Result<(), OutOfMemory>
-        requires { FitsVersion entry }
         ensures { OnOk result (self.new ≡ self.old ++ object_version_bytes entry) }
     {
         self.object(entry.object)?;

@@ -3,14 +3,14 @@ ghost use Rattle.xt_messages.specs.Limits.{FitsMetaReq, FitsRegistryReq};
 ghost use Rattle.xt_fields.specs.Reading.{Gives, Tries};
 ghost use Rattle.xt_fields.specs.BasicFields.{byte_bytes, half_bytes, word_bytes, long_bytes, text_bytes};
 ghost use Rattle.xt_wire.specs.IdFields.{node_bytes, mark_bytes};
-ghost use Rattle.xt_wire.specs.FileFields.{kind_bytes, capability_bytes};
-ghost use Rattle.xt_wire.specs.MetaFields.{meta_req_bytes, meta_req_at, meta_req_arms, mkdir_at, create_at, rename_at, list_names_at, chmod_at, grant_at, size_report_at};
+ghost use Rattle.xt_wire.specs.FileFields.{kind_bytes, members_bytes, capability_bytes};
+ghost use Rattle.xt_wire.specs.MetaFields.{meta_req_bytes, meta_req_at, meta_req_arms, mkdir_at, create_at, rename_at, list_names_at, chmod_at, grant_at, size_report_at, change_at};
 ghost use Rattle.xt_wire.specs.RegistryFields.{registry_req_bytes, registry_req_at, registry_req_arms, set_row_at, list_rows_at, remove_row_at};
 
 use crate::file::{ReadFiles, WriteFiles};
 use crate::ids::{ReadIds, WriteIds};
 use std::alloc::Global;
-use xt_base::{NodeId, OutOfMemory, SizeMark};
+use xt_base::{Members, NodeId, OutOfMemory, SizeMark};
 use xt_fields::{FieldErr, FieldReader, FieldWriter};
 use xt_messages::{Capability, Kind, MetaReq, RegistryReq};
 
@@ -27,7 +27,7 @@ pub trait ReadRequests {
 }
 
 /// The request of this number.
-#[tactic(auto, unfolding(crate::specs::MetaFields::meta_req_arms, crate::specs::MetaFields::unlink_at, crate::specs::MetaFields::rmdir_at, crate::specs::MetaFields::stat_at))]
+#[tactic(auto, unfolding(crate::specs::MetaFields::meta_req_arms, crate::specs::MetaFields::unlink_at, crate::specs::MetaFields::rmdir_at, crate::specs::MetaFields::stat_at, crate::specs::MetaFields::locate_at))]
 fn meta_req_arm(
     fields: &mut FieldReader<'_>,
     number: u8,
@@ -52,6 +52,10 @@ fn meta_req_arm(
         8 => chmod(fields, alloc),
         9 => grant(fields, alloc),
         10 => size_report(fields),
+        11 => change(fields, alloc),
+        12 => Ok(MetaReq::Locate {
+            path: fields.text(alloc, u16::MAX)?,
+        }),
         _ => Err(FieldErr::Unfit),
     }
 }
@@ -133,6 +137,16 @@ fn size_report(fields: &mut FieldReader<'_>) -> Result<MetaReq, FieldErr>
     let capability = fields.capability()?;
     let mark = fields.mark()?;
     Ok(MetaReq::Report { capability, mark })
+}
+
+/// A new list of members.
+#[tactic(auto, unfolding(crate::specs::MetaFields::change_at))]
+fn change(fields: &mut FieldReader<'_>, alloc: Global) -> Result<MetaReq, FieldErr>
+    ensures { Gives result fields.new (change_at fields.old) }
+{
+    let path = fields.text(alloc, u16::MAX)?;
+    let nodes = fields.members()?;
+    Ok(MetaReq::Change { path, nodes })
 }
 
 /// The request of this number.
@@ -311,6 +325,16 @@ fn put_size_report(
     fields.mark(mark)
 }
 
+/// A new list of members.
+fn put_change(fields: &mut FieldWriter, path: &str, nodes: Members) -> Result<(), OutOfMemory>
+    requires { length path.now < 2 ^ 16 }
+    ensures { OnOk result (fields.new ≡ fields.old
+        ++ (byte_bytes 11 ++ text_bytes path.now ++ members_bytes nodes)) }
+{
+    put_path(fields, 11, path)?;
+    fields.members(nodes)
+}
+
 /// A node to be registered.
 fn put_set_row(
     fields: &mut FieldWriter,
@@ -381,6 +405,8 @@ impl WriteRequests for FieldWriter {
             MetaReq::Chmod { path, mode } => put_path_and_mode(self, 8, path.as_str(), *mode),
             MetaReq::Grant { path, want } => put_grant(self, path.as_str(), *want),
             MetaReq::Report { capability, mark } => put_size_report(self, capability, *mark),
+            MetaReq::Change { path, nodes } => put_change(self, path.as_str(), *nodes),
+            MetaReq::Locate { path } => put_path(self, 12, path.as_str()),
         }
     }
 

@@ -2,17 +2,17 @@
 //! the command line ask.
 //!
 //! `main` makes what stands for the standard streams, a socket, a file, the clock of this machine and its processes, and ends with the status
-//! of `xtfs_run::run`, which does all that the program does. Where the words of the command line are refused, the commands are listed on
-//! standard error.
+//! of `xtfs_run::run`, which does all that the program does. Where the words of the command line are refused, standard error says which
+//! of them and why, and how that command is called. A node isn't started on a store that is another node's by the file beside it.
 #![tactic(auto)]
 
-use command_words::help_text;
+use command_help::{StoreOwner, options_missing, store_owner, told};
 use disk_model::FileDisk;
 use node_links::{ChildSpawner, StdinSource, StdoutSink, SystemClock, UdpLink};
 use std::alloc::Global;
-use std::env;
 use std::io::{self, ErrorKind};
 use std::process::ExitCode;
+use std::{env, fs};
 use xt_base::Words;
 use xt_messages::Status;
 use xtfs_run::run;
@@ -27,9 +27,57 @@ fn keep_freed(alloc: Global) {
     let _ = Vec::<u8>::with_capacity(alloc, FREED);
 }
 
-/// Writes to standard error what the commands are.
-fn help(rt: &HostRuntime) -> io::Result<()> {
-    eprint!(rt; "{}", help_text(rt.alloc())?)
+/// Writes to standard error what is to be read about words that were refused, or that ask for help.
+fn tell(rt: &HostRuntime, words: &Words) -> io::Result<()> {
+    eprint!(rt; "{}", told(rt.alloc(), words)?)
+}
+
+/// The words with the options that the environment has and they don't.
+fn with_environment(rt: &HostRuntime, mut words: Words) -> io::Result<Words> {
+    let alloc = rt.alloc();
+    for missing in options_missing(alloc, &words)?.iter() {
+        if let Ok(value) = env::var(rt, missing.variable) {
+            words.push(alloc, missing.option)?;
+            words.push(alloc, value.as_str())?;
+        }
+    }
+    Ok(words)
+}
+
+/// The status of a node that is started on another node's store: that of one on a file that is no store.
+const ANOTHERS: u8 = 13;
+
+/// Whether the file beside a store says that it is another node's. A store without one gets one.
+fn is_anothers(rt: &HostRuntime, owner: &StoreOwner) -> io::Result<bool> {
+    match fs::read_to_string(rt, owner.path.as_str()) {
+        Ok(line) => {
+            let other = line.as_str() != owner.line.as_str();
+            if other {
+                eprint!(rt;
+                    "xtfs: this store is another node's: {} says {}, and these words are those of {}",
+                    owner.path,
+                    line.trim_end(),
+                    owner.line,
+                )?;
+            }
+            Ok(other)
+        }
+        Err(error) => {
+            if error.kind() == ErrorKind::NotFound {
+                // Where it can't be written, the store can't be opened either, and `run` says so.
+                let _written = fs::write(rt, owner.path.as_str(), owner.line.as_str());
+            }
+            Ok(false)
+        }
+    }
+}
+
+/// Whether these words start a node on another node's store.
+fn starts_on_anothers(rt: &HostRuntime, words: &Words) -> io::Result<bool> {
+    match store_owner(rt.alloc(), words)? {
+        Some(owner) => is_anothers(rt, &owner),
+        None => Ok(false),
+    }
 }
 
 /// How the program was called: what it is called by, and the words after that.
@@ -58,6 +106,7 @@ fn read_command_line(rt: &HostRuntime) -> io::Result<CommandLine> {
     for word in args {
         words.push(alloc, word.as_str())?;
     }
+    let words = with_environment(rt, words)?;
     Ok(CommandLine { program, words })
 }
 
@@ -71,6 +120,9 @@ fn main(rt: HostRuntime) -> ExitCode {
         // Memory ran out before anything was done.
         return ExitCode::from(Status::OutOfMemory.code());
     };
+    if matches!(starts_on_anothers(&rt, &words), Ok(true)) {
+        return ExitCode::from(ANOTHERS);
+    }
     let mut sink = StdoutSink::new(io::writer(&rt));
     let mut link = UdpLink::new(alloc, &rt);
     let mut clock = SystemClock::new(&rt);
@@ -88,8 +140,8 @@ fn main(rt: HostRuntime) -> ExitCode {
         &mut spawner,
     );
     if matches!(&status, Status::Usage) {
-        // The status stands, whether or not the list of commands can be written.
-        let _told = help(&rt);
+        // The status stands, whether or not this can be written.
+        let _written = tell(&rt, &words);
     }
     ExitCode::from(status.code())
 }

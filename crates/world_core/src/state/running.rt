@@ -16,7 +16,7 @@ use xt_base::{DIR_NODE, MRC_NODE};
 use xt_messages::Event;
 
 /// How many messages of a node to itself a file may have after one event.
-const OWN: u128 = 16_532;
+const OWN: u128 = 65_684;
 
 impl<C: NodeCore, H: Hull> State<C, H> {
     /// The first step of a line that breaks no rule. Settling is nothing but its deliveries.

@@ -20,4 +20,4 @@ joined a b c d e f g h n s w r k ea eb ec ed ee ef eg eh =
 pub returns : goal.returns
 returns c =
     joined _ _ _ _ _ _ _ _ _ _ _ _ _ c.in_ok-line.ensures.items c.in_ok-push_number.ensures c.in_ok-push_number-2.ensures c.in_ok-push_count.ensures
-    c.in_ok-push_count-2.ensures c.in_ok-push_count-3.ensures c.in_ok-extend_from_slice.ensures.items c.from.ensures
+    c.in_ok-push_count-2.ensures c.in_ok-push_count-3.ensures c.in_ok-extend_from_slice.ensures.items c.in_ok-made.ensures

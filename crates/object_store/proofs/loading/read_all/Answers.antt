@@ -1,7 +1,11 @@
-use Rattle.std.proofs.Common.{◌∙◌, ap, get_or, sym, true, arith}
+use Rattle.std.proofs.Common.{◌∙◌, ap, get_or, subst, sym, true, arith}
 use Rattle.std.proofs.lemmas.List.{get_or_default}
 use Rattle.journal_moves.specs.declared.extent.Extent.{Extent}
 use Rattle.journal_moves.specs.Extents.{bytes_in}
+use Rattle.xt_messages.specs.declared.record.Record.{Record}
+use Rattle.object_store.specs.declared.place.BodyPlace.{BodyPlace}
+use Rattle.object_store.specs.Places.{IsPair}
+use Rattle.object_store.proofs.Filled.{pair_of_bare}
 use Rattle.object_store.proofs.Loaded.{all_from, bad_from, none_so_far_from, one_more}
 use Rattle.object_store.proofs.loading.read_all.Goals as goal
 
@@ -26,6 +30,11 @@ returns-in_default-clause-read g c =
     bad_from D.is_told (D.kept c.args.journal.now.disk).read extents i e c.loop-extent-test.true (sym (get_or_default extents i e none c.loop-extent-test.true)) c.read_payload.new.payload.items
     (λ told. c.in-Ok.ensures.value told ∙ ap (λ d. bytes_in true (D.kept d).read e) old.source) c.loop-extent.log c.loop-extent.folding old.so_far c.len.result c.len.ensures
     (λ rec fits text place. bad rec fits (c.as_slice-bytes.ensures.value ∙ text) place)
+
+pub push-requires : goal.push-requires
+push-requires g c =
+    subst (λ (r : Record). IsPair r c.of-place.result) (sym c.strip.ensures)
+    (pair_of_bare c.in-Some.rec c.of-place.result (ap (λ (p : BodyPlace). p.len) c.of-place.ensures))
 
 pub loop-extent-preserved : goal.loop-extent-preserved
 loop-extent-preserved g c =

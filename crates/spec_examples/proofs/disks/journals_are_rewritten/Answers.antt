@@ -1,10 +1,8 @@
-use Rattle.std.proofs.Common.{◌≡◌, ℕ, [], ◌∷◌, ◌++◌, inl, inr, refl, arith, Some}
-use Rattle.journal_areas.specs.declared.superblock.Slot.{Slot}
-use Rattle.journal_areas.specs.declared.superblock.Superblock.{Superblock}
+use Rattle.std.proofs.Common.{ℕ, [], ◌∷◌, ◌++◌, inl, inr, refl, arith}
 use Rattle.journal_areas.specs.Superblocks.{superblock_bytes, IsSound}
 use Rattle.journal_areas.specs.Sites.{shut_slot}
-use Rattle.spec_examples.specs.Areas.{area, around, once, slot, superblock, thrice, twice}
-use Rattle.spec_examples.specs.Journals.{start, without}
+use Rattle.spec_examples.specs.Areas.{area, slot, superblock}
+use Rattle.spec_examples.specs.Journals.{without}
 use Rattle.spec_examples.proofs.Readings.{◌▷◌, meets, moved, second, unfit, unmoved}
 use Rattle.spec_examples.proofs.disks.journals_are_rewritten.Goals as goal
 

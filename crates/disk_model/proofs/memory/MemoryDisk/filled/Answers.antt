@@ -35,14 +35,14 @@ returns c =
     let same_kept : memory_kept (seen c.self.inside) ≡ kept = ap memory_kept c.self.view_is in
     let keeps : length image ≡ length c.as_mut_slice.result.now = c.fill_unsynced.auto.image in
     let all : length image ≡ c.in_ok-bytes.bytes.len = omega (arith, keeps, ap length c.as_mut_slice.ensures.value, c.in_ok-bytes.bytes.ok.0) in
-    let is : c.from.result ≡ image = c.from.ensures ∙ take_at image (drop (length image) c.in_ok-bytes.bytes.items) c.in_ok-bytes.bytes.len all in
+    let is : c.in_ok-image.image ≡ image = c.in_ok-image.ensures ∙ take_at image (drop (length image) c.in_ok-bytes.bytes.items) c.in_ok-bytes.bytes.len all in
     let read : c.as_mut_slice.result.now ≡ kept.read = c.as_mut_slice.ensures.value ∙ c.in_ok-bytes.ensures in
     let synced : c.self.inside.synced_length ≡ length kept.synced = c.self.invariant.synced_length ∙ ap (λ (k : Kept). length k.synced) same_kept in
     let ranges : kept.written ≡ ranges_of c.split_at.result.1.now =
     sym (ap (λ (k : Kept). k.written) same_kept) ∙ c.self.invariant.written
     ∙ ap (λ ns. ranges_of (drop c.self.inside.synced_notes ns)) (sym c.as_slice.ensures.value) ∙ ap ranges_of (sym c.split_at.ensures.back) in
     record {
-      filled = is_filled c.args.fill kept c.from.result (memory_read_is_image c.args.self.now) (memory_reach c.args.self.now) (ap length is ∙ keeps ∙ ap length read)
+      filled = is_filled c.args.fill kept c.in_ok-image.image (memory_read_is_image c.args.self.now) (memory_reach c.args.self.now) (ap length is ∙ keeps ∙ ap length read)
           (λ k inside unsynced.
           ap (λ (l : List ℕ). get_or l k 0) is
           ∙ c.fill_unsynced.ensures.filled k (omega (arith, inside, ap length read))

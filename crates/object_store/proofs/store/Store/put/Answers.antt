@@ -1,4 +1,4 @@
-use Rattle.std.proofs.Common.{refl, ◌≡◌, ◌++◌, ◌∷◌, [], List, ℕ, ◌∙◌, ap}
+use Rattle.std.proofs.Common.{refl, ◌≡◌, ◌++◌, ◌∷◌, [], List, ℕ, ◌∙◌, ap, sym, subst}
 use Rattle.disk_model.proofs.Moments.{begun}
 use Rattle.xt_messages.specs.declared.record.Record.{Record}
 use Rattle.xt_journal.specs.Access as access
@@ -9,8 +9,9 @@ use Rattle.object_store.specs.declared.place.BodyPlace.{BodyPlace}
 use Rattle.object_store.specs.Access.{records_of}
 use Rattle.object_store.specs.Bare.{bare}
 use Rattle.object_store.specs.Logs.{bare_in, places_in}
-use Rattle.object_store.specs.Places.{place_of}
+use Rattle.object_store.specs.Places.{IsPair, place_of}
 use Rattle.object_store.specs.Texts.{texts_of}
+use Rattle.object_store.proofs.Filled.{pair_of_bare}
 use Rattle.object_store.proofs.Outcomes.{keeps_longer, stands_longer, place_with, room_with, over_with, need_with, left_with, stopped_with, moments_with, goes_on_itself}
 use Rattle.object_store.proofs.Stores.{put_known, put_kept, same_known, same_kept}
 use Rattle.object_store.proofs.store.Store.put.Goals as goal
@@ -169,3 +170,9 @@ invariant_of-store-in-Err-OutOfMemory g c =
     let kept =
     same_kept {g = g.D.Disk} c.in-Err-OutOfMemory.journal c.prepare.new.log c.args.self c.prepare.ensures.records c.prepare.ensures.places facts.memory.0 facts.memory.3 in
     record { keeps = kept.keeps; laid = kept.laid; sound = kept.sound }
+
+-- the record without its body, and the body's place
+pub put-requires-clause-pair : goal.put-requires-clause-pair
+put-requires-clause-pair g c =
+    subst (λ (r : Record). IsPair r c.in-Ok.made.place) (sym c.in-Ok.ensures.bare)
+    (pair_of_bare c.args.rec.now c.in-Ok.made.place (ap (λ (p : BodyPlace). p.len) c.in-Ok.ensures.place))

@@ -3,9 +3,8 @@ use Rattle.std.proofs.Common.{◌≡◌, ◌∙◌, ℕ, suc, ◌+◌, ◌-◌, 
 use Rattle.std.proofs.Math.ListN.{set, length-set}
 use Rattle.std.proofs.lemmas.List.{take_more_set}
 use Rattle.xt_base.specs.declared.ids.NodeId.{NodeId}
-use Rattle.server_text.specs.Reading.{first_word, other_words, each_word, node_in}
+use Rattle.server_text.specs.Reading.{first_word, other_words, each_word, node_in, nodes_of}
 use Rattle.server_text.proofs.ManyAgain.{each_word_more, each_word_none}
-use Rattle.schedule_text.specs.LineReading.{nodes_of}
 
 -- the rest after one node more
 left_over : (all count left : ℕ) (rest : List ℕ) → 0 < length rest → left ≡ suc (all - (count + 1))

@@ -1,8 +1,8 @@
 use Rattle.std.proofs.Common.{◌≡◌, ◌≢◌, ◌∙◌, ◌-◌, sym, ap, length, take, arith}
 use Rattle.std.proofs.lemmas.Bool.{eqb-true, eqb-false}
-use Rattle.schedule_text.specs.LineReading.{nodes_of}
-use Rattle.schedule_text.proofs.NodeSteps.{one_read, none_left, all_read}
-use Rattle.schedule_text.proofs.nodes.read_nodes.Goals as goal
+use Rattle.server_text.proofs.NodeSteps.{one_read, none_left, all_read}
+use Rattle.server_text.specs.Reading.{nodes_of}
+use Rattle.server_text.proofs.lists.read_nodes.Goals as goal
 
 pub returns-then-is_empty-clause-nodes : goal.returns-then-is_empty-clause-nodes
 returns-then-is_empty-clause-nodes c =

@@ -1,6 +1,6 @@
 use Rattle.std.proofs.Common.{◌≡◌, ◌-◌, ◌++◌, length, take}
-use Rattle.schedule_text.specs.LineReading.{nodes_of}
-use Rattle.schedule_text.proofs.nodes.read_nodes.Given as goal
+use Rattle.server_text.specs.Reading.{nodes_of}
+use Rattle.server_text.proofs.lists.read_nodes.Given as goal
 
 -- the nodes that are read, and those that the rest numbers
 abbrev pub invariant-loop-count : goal.invariant-loop-count

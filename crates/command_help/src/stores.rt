@@ -1,0 +1,72 @@
+//! Whose a store is: a small file beside it says so.
+
+use crate::texts_of;
+use clap::ArgMatches;
+use clap::error::ErrorKind;
+use command_words::program;
+use std::alloc::{AllocError, Global};
+use xt_base::{OutOfMemory, Words};
+
+/// The file beside the store of a node, and what it says: the node's role and number, as a line.
+#[derive(Drop)]
+pub struct StoreOwner {
+    pub path: String,
+    pub line: String,
+}
+
+/// The role and number of the node that this command starts, as a line; none for a command that starts no node.
+fn line_of(
+    alloc: Global,
+    name: &str,
+    found: &ArgMatches<'_>,
+) -> Result<Option<String>, OutOfMemory> {
+    if name == "dir" {
+        Ok(Some(String::from_str(alloc, "dir 900\n")?))
+    } else if name == "mrc" {
+        Ok(Some(String::from_str(alloc, "mrc 901\n")?))
+    } else if name == "osd" {
+        match found.get_str("id") {
+            Some(id) => Ok(Some(format!(in alloc; "osd {id}\n")?)),
+            None => Ok(None),
+        }
+    } else {
+        Ok(None)
+    }
+}
+
+/// What the command needs to say of its store.
+fn owner_in(
+    alloc: Global,
+    name: &str,
+    found: &ArgMatches<'_>,
+) -> Result<Option<StoreOwner>, OutOfMemory> {
+    let Some(store) = found.get_str("store") else {
+        return Ok(None);
+    };
+    match line_of(alloc, name, found)? {
+        Some(line) => {
+            let path = format!(in alloc; "{store}.node")?;
+            Ok(Some(StoreOwner { path, line }))
+        }
+        None => Ok(None),
+    }
+}
+
+/// What stands beside the store of the node that these words start; none where they start no node.
+pub fn store_owner(alloc: Global, words: &Words) -> Result<Option<StoreOwner>, OutOfMemory> {
+    let texts = texts_of(alloc, words.as_slice())?;
+    let all = program(alloc, false)?;
+    match all.try_get_matches_from(texts.as_slice()) {
+        Ok(found) => match found.subcommand() {
+            Some((name, inner)) => owner_in(alloc, name, inner),
+            None => Ok(None),
+        },
+        Err(error) => {
+            if error.kind() == ErrorKind::OutOfMemory {
+                Err(AllocError)
+            } else {
+                Ok(None)
+            }
+        }
+    }
+}
