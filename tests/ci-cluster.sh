@@ -33,6 +33,23 @@ def session(path, name, layout):
     ]
 
 
+# what `nodes` writes of a cluster from this port on, without these OSDs
+def registry(first, gone=()):
+    rows = [f"{osd} 1 127.0.0.1:{first + 1 + osd} 1" for osd in range(1, OSDS + 1) if osd not in gone]
+    return "".join(f"{row}\n" for row in [*rows, f"901 2 127.0.0.1:{first + 1} 1"])
+
+
+def lines(first):
+    return [
+        ("nodes", registry(first), 0),
+        *LINES,
+        ("unregister 4", "", 0),
+        ("nodes", registry(first, [4]), 0),
+        ("unregister 4", "! refused absent\n", 21),
+        ("unregister 0", "! usage\n", 2),
+    ]
+
+
 LINES = [
     ("mkdir /v", "", 0),
     ("mkdir /v/d", "", 0),
@@ -76,9 +93,9 @@ def are_free(first, count):
 
 
 def main():
-    source = "".join(f"{line}\n" for line, _, _ in LINES)
-    wanted = "".join(f"{wrote}= {status}\n" for _, wrote, status in LINES)
     first, count = free_ports(OSDS + 2), OSDS + 2
+    source = "".join(f"{line}\n" for line, _, _ in lines(first))
+    wanted = "".join(f"{wrote}= {status}\n" for _, wrote, status in lines(first))
     with tempfile.TemporaryDirectory() as folder:
         words = ["cluster", "--osds", str(OSDS), "--port", str(first), "--store", os.path.join(folder, "s"), "--key", "00"]
         done = subprocess.run(
@@ -96,7 +113,7 @@ def main():
     if not are_free(first, count):
         print("a node still runs")
         failed = 1
-    print(f"a cluster that carries out {len(LINES)} lines: {'failed' if failed else 'as it should be'}")
+    print(f"a cluster that carries out {len(lines(first))} lines: {'failed' if failed else 'as it should be'}")
     return failed
 
 

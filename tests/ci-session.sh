@@ -33,12 +33,27 @@ def session(path, name, layout):
     ]
 
 
-SESSION = [
-    (["mkdir", "/v"], "", 0),
-    (["mkdir", "/v/d"], "", 0),
-    *session("/v/d/f", "f", ["--replicas", "3"]),
-    *session("/v/d/g", "g", ["--striped", "4"]),
-]
+# What `nodes` writes of these rows: a node's number, kind, address and version.
+def registry(addresses, versions):
+    return "".join(f"{node} {2 if node == 901 else 1} {addresses[node]} {versions[node]}\n" for node in sorted(versions))
+
+
+def commands(addresses):
+    once = {node: 1 for node in addresses}
+    return [
+        (["nodes"], registry(addresses, once), 0),
+        (["mkdir", "/v"], "", 0),
+        (["mkdir", "/v/d"], "", 0),
+        *session("/v/d/f", "f", ["--replicas", "3"]),
+        *session("/v/d/g", "g", ["--striped", "4"]),
+        (["unregister", "4"], "", 0),
+        (["nodes"], registry(addresses, {node: 1 for node in addresses if node != 4}), 0),
+        (["unregister", "4"], "! refused absent\n", 21),
+        (["register", "4", "1", addresses[4]], "", 0),
+        (["nodes"], registry(addresses, once), 0),
+        (["register", "4", "1", addresses[4]], "", 0),
+        (["nodes"], registry(addresses, {**once, 4: 2}), 0),
+    ]
 
 
 def free_port():
@@ -90,7 +105,8 @@ def main():
                 ends_well(["register", str(node), "2" if node == 901 else "1", address], directory)
             ends_well(["mkdir", "/known"], directory)
             ends_well(["put", "/known/f", "--striped", "4", "--pattern", "1"], directory)
-            for words, wrote, status in SESSION:
+            asked = commands(addresses)
+            for words, wrote, status in asked:
                 got = command(words, directory)
                 if got != (wrote, status):
                     print(f"{' '.join(words)}: {got[0]!r}, status {got[1]}; wanted {wrote!r}, status {status}")
@@ -99,7 +115,7 @@ def main():
             for child in children:
                 child.kill()
                 child.wait()
-    print(f"a session of {len(SESSION)} commands on a replicated and on a striped file: {'failed' if failed else 'as it should be'}")
+    print(f"a session of {len(asked)} commands on the registry, a replicated and a striped file: {'failed' if failed else 'as it should be'}")
     return failed
 
 

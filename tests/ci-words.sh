@@ -36,6 +36,11 @@ REFUSED = [
     (["truncate", "/a", "1e6", *SITE], ["'1e6'", "'size'"]),
     (["register", "900", "1", "127.0.0.1:7", *SITE], ["900", "--dir"]),
     (["register", "1", "3", "127.0.0.1:7", *SITE], ["'3'", "'kind'", "1 to 2"]),
+    (["unregister", "900", *SITE], ["900", "--dir"]),
+    (["unregister", "0", *SITE], ["'0'", "'node'"]),
+    (["unregister", *SITE], ["<node>"]),
+    (["nodes", "1", *SITE], ["'1'"]),
+    (["nodes"], ["--dir"]),
     (["stat", "/a", *SITE, "--lease", "100", "--drift", "60"], ["--drift", "--lease"]),
     (["stat", "/a", *SITE, "--tries", "0"], ["'0'", "'tries'"]),
     (["osd", "--id", "1", "--dir", "127.0.0.1:9", "--listen", "127.0.0.1:0", "--store", "s", "--key", "0g"], ["'0g'", "'key'", "hex"]),
@@ -84,6 +89,8 @@ def main():
         # Without --dir the words are refused; the variable stands for it, and nobody answers there.
         ended = run(["stat", "/a", "--tries", "1", "--lease", "20", "--drift", "2"], folder, XTFS_DIR=f"127.0.0.1:{free_port()}")
         check("XTFS_DIR", ended.returncode == 20, ended)
+        ended = run(["nodes", "--tries", "1", "--lease", "20", "--drift", "2"], folder, XTFS_DIR=f"127.0.0.1:{free_port()}")
+        check("nodes of XTFS_DIR", ended.returncode == 20 and ended.stdout == b"! retry 900=silent\n", ended)
         ended = run(["stat", "/a", "--tries", "1"], folder, XTFS_DIR="127.0.0.1:9", XTFS_LEASE="0")
         check("XTFS_LEASE", ended.returncode == 2 and b"'lease'" in ended.stderr, ended)
 

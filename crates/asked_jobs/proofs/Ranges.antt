@@ -8,7 +8,7 @@ use Rattle.hex.specs.declared.error.FromHexError.{FromHexError}
 use Rattle.hex.proofs.HexLemmas.{decode_of-ok}
 use Rattle.command_words.specs.Commands.{program_app}
 use Rattle.command_words.specs.Ranges.{is_decimal, is_lower_hex, number_of, number_in, number_or, key_of, some_bytes, times_of}
-use Rattle.command_words.specs.Jobs.{Rows, named, node_at, path_at, address_at, mode_at, number_at, number_or_at, number_if_at, key_at, key_if_at, range_of, range_at, layout_at, stripe_at, pattern_at, registered_at, register_of, mkdir_of, rmdir_of, rm_of, mv_of, chmod_of, ls_of, stat_of, put_of, get_of, truncate_of, file_order, order_of, directory_at, client_of, settings_of, who_of, serving_of, make_of, osd_of, mrc_of, dir_of, cluster_of, node_job, job_in, chosen_in, unless_fault, job_of}
+use Rattle.command_words.specs.Jobs.{Rows, named, node_at, path_at, address_at, mode_at, number_at, number_or_at, number_if_at, key_at, key_if_at, range_of, range_at, layout_at, stripe_at, pattern_at, registered_at, register_of, unregister_of, mkdir_of, rmdir_of, rm_of, mv_of, chmod_of, ls_of, stat_of, put_of, get_of, truncate_of, file_order, tree_order, order_of, directory_at, client_of, settings_of, who_of, serving_of, make_of, osd_of, mrc_of, dir_of, cluster_of, node_job, job_in, chosen_in, unless_fault, job_of}
 use Rattle.command_words.specs.declared.job.Settings.{Settings}
 use Rattle.command_words.specs.declared.job.Serving.{Serving}
 use Rattle.command_words.specs.declared.job.Defaults.{Defaults}
@@ -142,6 +142,10 @@ register_within inside rows =
     then_some (IsOrder inside) _ (registered_at rows) (λ node. then_some (IsOrder inside) _ (number_at 1 2 (codes "kind") rows) (λ kind.
     mapped (IsOrder inside) _ (address_at (codes "addr") rows) (λ address. (tt {0}, tt {0}))))
 
+unregister_within : (inside : Bool) (rows : Rows) → IfSome (unregister_of rows) (IsOrder inside)
+unfolding unregister_of
+unregister_within inside rows = mapped (IsOrder inside) _ (registered_at rows) (λ node. (tt {0}, tt {0}))
+
 mkdir_within : (inside : Bool) (rows : Rows) → IfSome (mkdir_of rows) (IsOrder inside)
 unfolding mkdir_of
 mkdir_within inside rows = of_path inside rows (λ path. order.Mkdir path) (λ path. (tt {0}, tt {0}))
@@ -216,15 +220,21 @@ file_order_within inside name rows =
     (either (IsOrder inside) (named (codes "get") name) _ _ (get_within inside rows)
     (either (IsOrder inside) (named (codes "truncate") name) (truncate_of rows) None (truncate_within inside rows) tt))))
 
+tree_order_within : (inside : Bool) (name : Text) (rows : Rows) → IfSome (tree_order inside name rows) (IsOrder inside)
+unfolding tree_order
+tree_order_within inside name rows =
+    either (IsOrder inside) (named (codes "mkdir") name) _ _ (mkdir_within inside rows)
+    (either (IsOrder inside) (named (codes "rmdir") name) _ _ (rmdir_within inside rows)
+    (either (IsOrder inside) (named (codes "rm") name) _ _ (rm_within inside rows)
+    (either (IsOrder inside) (named (codes "mv") name) _ _ (mv_within inside rows)
+    (either (IsOrder inside) (named (codes "chmod") name) _ _ (chmod_within inside rows) (file_order_within inside name rows)))))
+
 order_within : (inside : Bool) (name : Text) (rows : Rows) → IfSome (order_of inside name rows) (IsOrder inside)
 unfolding order_of
 order_within inside name rows =
     either (IsOrder inside) (named (codes "register") name) _ _ (register_within inside rows)
-    (either (IsOrder inside) (named (codes "mkdir") name) _ _ (mkdir_within inside rows)
-    (either (IsOrder inside) (named (codes "rmdir") name) _ _ (rmdir_within inside rows)
-    (either (IsOrder inside) (named (codes "rm") name) _ _ (rm_within inside rows)
-    (either (IsOrder inside) (named (codes "mv") name) _ _ (mv_within inside rows)
-    (either (IsOrder inside) (named (codes "chmod") name) _ _ (chmod_within inside rows) (file_order_within inside name rows))))))
+    (either (IsOrder inside) (named (codes "unregister") name) _ _ (unregister_within inside rows)
+    (either (IsOrder inside) (named (codes "nodes") name) (Some order.Nodes) _ (tt {0}, tt {0}) (tree_order_within inside name rows)))
 
 -- ---- jobs
 

@@ -125,12 +125,12 @@ fn meta_call(who: &Who, request: Option<MetaReq>) -> Option<Call>
     }
 }
 
-/// The row of the node that is registered.
+/// The request for the row that is set or removed.
 fn get_of(order: &Order) -> Option<Call>
     ensures { result ≡ plan.get_of order.now }
 {
     match order {
-        Order::Register { node, .. } => Some(Call::Registry {
+        Order::Register { node, .. } | Order::Unregister { node } => Some(Call::Registry {
             request: RegistryReq::Get { node: *node },
         }),
         _ => None,
@@ -158,7 +158,7 @@ fn set(
     }))
 }
 
-/// The setting of the row of the node that is registered, over the version that it has.
+/// The setting or the removal of a row of the registry, under the version that it has.
 fn set_of(alloc: Global, order: &Order, version: u64) -> Result<Option<Call>, OutOfMemory>
     ensures { IfOk result (λ call. call ≡ plan.set_of order.now version) }
 {
@@ -168,6 +168,12 @@ fn set_of(alloc: Global, order: &Order, version: u64) -> Result<Option<Call>, Ou
             kind,
             address,
         } => set(alloc, *node, *kind, address, version),
+        Order::Unregister { node } => Ok(Some(Call::Registry {
+            request: RegistryReq::Remove {
+                node: *node,
+                expected: version,
+            },
+        })),
         _ => Ok(None),
     }
 }
@@ -269,7 +275,9 @@ pub fn operation_of(
     ensures { IfOk result (λ call. call ≡ operation_of (task_of job.now) stage.now) }
 {
     match stage {
-        Stage::Lists { kind, above } => Ok(rows_above(*kind, *above)),
+        Stage::Lists { kind, above } | Stage::Collects { kind, above, .. } => {
+            Ok(rows_above(*kind, *above))
+        }
         Stage::Looks => Ok(get_of(&job.order)),
         Stage::Sets { version } => set_of(alloc, &job.order, *version),
         Stage::AsksOnce | Stage::Pages { .. } | Stage::Creates | Stage::Grants => {

@@ -1,11 +1,11 @@
 //! How a command goes on after the result of an operation.
-ghost use Rattle.std.specs.Prelude.{◌≡◌, ◌≤◌, ◌<◌, ◌^◌, [], IfOk};
+ghost use Rattle.std.specs.Prelude.{◌≡◌, ◌≤◌, ◌<◌, ◌^◌, ◌++◌, [], IfOk};
 ghost use Rattle.client_plans.specs.Plans as plan;
 ghost use Rattle.client_plans.specs.Plans.{goes_by, end_in, end_of};
 ghost use Rattle.client_plans.specs.declared.stage.Stage.TheVariants as next;
 
 use crate::pieces::{end_in, first_in, object_size, piece_length, place_of};
-use crate::showing::{lines_of, number_line, push_line_end, row_line, shown_as};
+use crate::showing::{lines_of, nodes_text, number_line, push_line_end, row_line, shown_as};
 use client_plans::{Goes, Stage};
 use client_rows::CallResult;
 use command_words::Order;
@@ -13,7 +13,7 @@ use std::alloc::Global;
 use truncate_epochs::merge;
 use xt_base::{Copies, Name, NodeId, Octets, OutOfMemory, SizeMark};
 use xt_messages::{
-    Capability, MetaAnswer, MetaRefusal, Refusal, RegistryAnswer, RegistryRow, Status,
+    Capability, MetaAnswer, MetaRefusal, Refusal, RegistryAnswer, RegistryRow, RegistryRows, Status,
 };
 
 /// No node has this number, and all are above it.
@@ -451,7 +451,75 @@ fn rows_listed(
     }
 }
 
-/// The answer to the setting of a row.
+/// These rows, and then those of a page.
+fn joined(
+    alloc: Global,
+    before: &RegistryRows,
+    rows: &[RegistryRow],
+) -> Result<RegistryRows, OutOfMemory>
+    ensures { IfOk result (λ all. all ≡ before.now ++ rows.now) }
+{
+    let mut all = before.copy(alloc)?;
+    for row in rows {
+        all.push(row.copy(alloc)?)?;
+    }
+    Ok(all)
+}
+
+/// A page of rows came for a command that shows them, which are these with those before. After the last page of kind 2 (the MRC) those of
+/// kind 1 (OSDs) are asked for, and after these all rows are shown.
+fn rows_collected(
+    alloc: Global,
+    kind: u8,
+    told: RegistryRows,
+    rows: &[RegistryRow],
+) -> Result<Goes, OutOfMemory>
+    ensures { IfOk result (λ goes. goes ≡ plan.rows_collected kind told rows.now) }
+{
+    if rows.len() >= PAGE_ROWS {
+        let above = last_node(rows);
+        return Ok(goes_to(
+            alloc,
+            Stage::Collects {
+                kind,
+                above,
+                rows: told,
+            },
+        ));
+    }
+    if kind == 2 {
+        return Ok(goes_to(
+            alloc,
+            Stage::Collects {
+                kind: 1,
+                above: NOBODY,
+                rows: told,
+            },
+        ));
+    }
+    let text = nodes_text(alloc, told.as_slice())?;
+    Ok(ends_with(text))
+}
+
+/// The answer to the request for a page of the rows that a command shows.
+fn nodes_listed(
+    alloc: Global,
+    kind: u8,
+    before: &RegistryRows,
+    answer: &RegistryAnswer,
+) -> Result<Goes, OutOfMemory>
+    ensures { IfOk result (λ goes. goes ≡ plan.nodes_listed kind before.now answer.now) }
+{
+    match answer {
+        RegistryAnswer::Rows { rows } => {
+            let told = joined(alloc, before, rows.as_slice())?;
+            rows_collected(alloc, kind, told, rows.as_slice())
+        }
+        _ => Ok(ends(alloc)),
+    }
+}
+
+/// The answer to the setting or the removal of a row.
 fn row_set(alloc: Global, answer: &RegistryAnswer) -> Goes
     ensures { result ≡ plan.row_set answer.now }
 {
@@ -475,6 +543,7 @@ fn registered(
 {
     match stage {
         Stage::Lists { kind, .. } => rows_listed(alloc, order, *kind, answer),
+        Stage::Collects { kind, rows, .. } => nodes_listed(alloc, *kind, rows, answer),
         Stage::Looks => Ok(goes_to(
             alloc,
             Stage::Sets {

@@ -22,7 +22,7 @@ use command_words::{ClientJob, Order};
 use node_links::{Clock, Link, Sink, Source};
 use schedule_lines::{finish, put_all};
 use std::alloc::Global;
-use xt_base::{Address, Boot, COUNTS, NodeId, Octets};
+use xt_base::{Address, Boot, COUNTS, NodeId, Octets, Seq};
 use xt_messages::{Call, Limited, Status};
 
 /// What became of an operation.
@@ -47,11 +47,16 @@ pub fn first_number(reading: u64) -> u64
 }
 
 /// Where a command begins.
-fn begins(order: &Order) -> Stage
+fn begins(alloc: Global, order: &Order) -> Stage
     ensures { result ≡ begins order.now }
 {
     match order {
-        Order::Register { .. } => Stage::Looks,
+        Order::Register { .. } | Order::Unregister { .. } => Stage::Looks,
+        Order::Nodes => Stage::Collects {
+            kind: 2,
+            above: NodeId(0),
+            rows: Seq::new(alloc),
+        },
         _ => Stage::Lists {
             kind: 2,
             above: NodeId(0),
@@ -360,7 +365,7 @@ pub(crate) fn work<K: Sink, L: Link, C: Clock>(
         source source taken result }
 {
     let mut pieces = PatternPieces::new(pattern_size(&job.order));
-    let mut stage = begins(&job.order);
+    let mut stage = begins(alloc, &job.order);
     for _ in 0..COUNTS {
         match advance(alloc, job, session, &stage, out, link, clock) {
             Advanced::On { stage: next } => match pieces.feed(alloc, next) {
@@ -399,7 +404,7 @@ fn work_from<S: Source, K: Sink, L: Link, C: Clock>(
         (S.fault_count src.old) (S.fault_count src.new) taken result }
 {
     let mut pieces = SourcePieces::new();
-    let mut stage = begins(&job.order);
+    let mut stage = begins(alloc, &job.order);
     for _ in 0..COUNTS {
         let next = match advance(alloc, job, session, &stage, out, link, clock) {
             Advanced::On { stage: next } => next,

@@ -1,11 +1,14 @@
 //! What commands write.
 ghost use Rattle.std.specs.Prelude.{◌≡◌, ◌<◌, ◌++◌, ◌∷◌, [], IfOk, OnOk};
+ghost use Rattle.std.specs.BTreeMap.{values};
 ghost use Rattle.std.specs.Fmt.{decimal};
-ghost use Rattle.client_plans.specs.Plans.{hex_digit, hex_pair, hex_text, shown_as, line_end, row_word, row_mark, mode_word, row_line, lines_of};
+ghost use Rattle.std.specs.List.{flat_map};
+ghost use Rattle.client_plans.specs.Plans.{hex_digit, hex_pair, hex_text, shown_as, line_end, row_word, row_mark, mode_word, row_line, lines_of, node_line, node_lines, nodes_text};
 
 use std::alloc::Global;
+use std::collections::BTreeMap;
 use xt_base::{Name, Octets, OutOfMemory, SizeMark};
-use xt_messages::RowKind;
+use xt_messages::{RegistryRow, RowKind};
 
 /// The lower-case hex digit of a number below 16.
 fn hex_digit(number: u8) -> u8
@@ -171,4 +174,48 @@ pub fn lines_of(alloc: Global, names: &[Name]) -> Result<Octets, OutOfMemory>
         push_name(&mut text, name)?;
     }
     Octets::from_vec(text)
+}
+
+/// The line of a row of the registry: its node, kind, address and version.
+fn node_line(alloc: Global, row: &RegistryRow) -> Result<Octets, OutOfMemory>
+    ensures { IfOk result (λ line. line ≡ node_line row.now) }
+{
+    let mut line = Vec::new(alloc);
+    push_number(alloc, &mut line, u64::from(row.node.0))?;
+    push_spaced(alloc, &mut line, u64::from(row.kind))?;
+    line.push(b' ')?;
+    push_bytes(&mut line, row.address.as_str().as_bytes())?;
+    push_spaced(alloc, &mut line, row.version)?;
+    line.push(b'\n')?;
+    Octets::from_vec(line)
+}
+
+/// The lines of rows by their nodes.
+fn node_lines(alloc: Global, rows: &[RegistryRow]) -> Result<BTreeMap<u32, Octets>, OutOfMemory>
+    ensures { IfOk result (λ lines. lines.entries ≡ node_lines rows.now) }
+{
+    let mut lines = BTreeMap::new(alloc);
+    for row in rows {
+        lines.insert(row.node.0, node_line(alloc, row)?)?;
+    }
+    Ok(lines)
+}
+
+/// These lines, one after the other.
+fn text_of(alloc: Global, lines: &BTreeMap<u32, Octets>) -> Result<Octets, OutOfMemory>
+    ensures { IfOk result (λ text. text ≡ flat_map (λ line. line) (values lines.now)) }
+{
+    let mut text = Vec::new(alloc);
+    for line in lines.values() {
+        push_bytes(&mut text, line.as_slice())?;
+    }
+    Octets::from_vec(text)
+}
+
+/// One line for each node in these rows, rising.
+pub fn nodes_text(alloc: Global, rows: &[RegistryRow]) -> Result<Octets, OutOfMemory>
+    ensures { IfOk result (λ text. text ≡ nodes_text rows.now) }
+{
+    let lines = node_lines(alloc, rows)?;
+    text_of(alloc, &lines)
 }

@@ -1,7 +1,10 @@
 -- What each client command does: its operations, one after the other, each by the results of those before it, and what it writes.
-use Rattle.std.specs.Prelude.{ℕ, ◌+◌, ◌-◌, ◌/◌, ◌%◌, ◌==◌, ◌&&◌, ◌||◌, nat_lt, min, max, Bool, true, false, if◌then◌else◌, Option, Some, None, List, [], ◌∷◌, ◌++◌, length, take, drop, slice_get, codes}
+use Rattle.std.specs.Prelude.{ℕ, ◌+◌, ◌-◌, ◌/◌, ◌%◌, ◌==◌, ◌&&◌, ◌||◌, nat_lt, min, max, Bool, true, false, if◌then◌else◌, Option, Some, None, List, [], ◌∷◌, ◌++◌, length, take, drop, fold, slice_get, codes}
 use Rattle.std.specs.List.{flat_map}
 use Rattle.std.specs.Fmt.{decimal}
+use Rattle.std.specs.Ordering.{nat_cmp}
+use Rattle.std.specs.BTreeMap.{insert_entry}
+use Rattle.std.specs.Map.{values_of}
 use Rattle.xt_base.specs.declared.ids.NodeId.{NodeId}
 use Rattle.xt_base.specs.declared.ids.SizeMark.{SizeMark}
 use Rattle.xt_messages.specs.declared.event.Call.{Call}
@@ -60,9 +63,12 @@ refused why = goes_to (next.Over (status.Refused why))
 abbrev pub nobody : NodeId
 nobody = record { 0 = 0 }
 
--- A registration asks the DIR alone. Every other command first learns where the MRC is, and then where the OSDs are.
+-- The commands on the registry ask the DIR alone: for the row that is set or removed, or for the rows that are shown. Every other command
+-- first learns where the MRC is, and then where the OSDs are.
 abbrev pub begins : Order → Stage
 begins (order.Register node kind address) = next.Looks
+begins (order.Unregister node) = next.Looks
+begins order.Nodes = next.Collects 2 nobody []
 begins _ = next.Lists 2 nobody
 
 -- after these lists
@@ -140,6 +146,17 @@ row_line kind owner group mode mark =
 
 abbrev pub lines_of : List (List ℕ) → List ℕ
 lines_of names = flat_map (λ name. name ++ 10 ∷ []) names
+
+-- the line of a row of the registry: its node, kind, address and version
+abbrev pub node_line : RegistryRow → List ℕ
+node_line r = decimal r.node.0 ++ 32 ∷ decimal r.kind ++ 32 ∷ r.address ++ 32 ∷ decimal r.version ++ 10 ∷ []
+
+-- the lines of rows beside their nodes, rising; where a node has two rows, the later one counts
+abbrev pub node_lines : List RegistryRow → List (ℕ × List ℕ)
+node_lines rows = fold (λ lines r. insert_entry nat_cmp lines r.node.0 (node_line r)) [] rows
+
+abbrev pub nodes_text : List RegistryRow → List ℕ
+nodes_text rows = flat_map (λ line. line) (values_of (node_lines rows))
 
 -- ---- after a grant, and after a piece
 
@@ -258,6 +275,17 @@ abbrev pub rows_listed : Order → ℕ → RegistryAnswer → Goes
 rows_listed wish kind (row.Rows rows) = goes_to (rows_told wish kind rows)
 rows_listed wish kind _ = ends_with []
 
+-- The rows that were told so far are shown once all pages were.
+abbrev pub rows_collected : ℕ → List RegistryRow → List RegistryRow → Goes
+rows_collected kind told rows =
+    if nat_lt (length rows) 256 then (if kind == 2 then goes_to (next.Collects 1 nobody told) else ends_with (nodes_text told))
+    else goes_to (next.Collects kind (last_node rows) told)
+
+abbrev pub nodes_listed : ℕ → List RegistryRow → RegistryAnswer → Goes
+nodes_listed kind before (row.Rows rows) = rows_collected kind (before ++ rows) rows
+nodes_listed kind before _ = ends_with []
+
+-- a row was set or removed, or not
 abbrev pub row_set : RegistryAnswer → Goes
 row_set (row.Changed now) = refused (ends_by.Changed now)
 row_set row.Absent = refused ends_by.Absent
@@ -265,6 +293,7 @@ row_set _ = ends_with []
 
 abbrev pub registered : Order → Stage → RegistryAnswer → Goes
 registered wish (next.Lists kind above) what = rows_listed wish kind what
+registered wish (next.Collects kind above rows) what = nodes_listed kind rows what
 registered wish next.Looks what = goes_to (next.Sets (version_told what))
 registered wish (next.Sets version) what = row_set what
 registered wish stage _ = ends_with []
@@ -356,13 +385,16 @@ meta_call user group (Some request) = Some (call.Meta user group request)
 
 abbrev pub get_of : Order → Option Call
 get_of (order.Register node kind address) = Some (call.Registry (registry.Get node))
+get_of (order.Unregister node) = Some (call.Registry (registry.Get node))
 get_of _ = None
 
 abbrev pub set : NodeId → ℕ → List ℕ → ℕ → Option Call
 set node kind address version = Some (call.Registry (registry.Set node kind address version))
 
+-- a row is set or removed under the version that it has
 abbrev pub set_of : Order → ℕ → Option Call
 set_of (order.Register node kind address) version = set node kind address version
+set_of (order.Unregister node) version = Some (call.Registry (registry.Remove node version))
 set_of _ version = None
 
 abbrev pub write_of : Capability → ℕ → List ℕ → Option Call
@@ -387,6 +419,7 @@ report_of user group cap = Some (call.Report user group cap.file.number)
 -- the call of a stage; none where the command is over
 unfoldable pub operation_of : Task → Stage → Option Call
 operation_of task (next.Lists kind above) = rows_above kind above
+operation_of task (next.Collects kind above rows) = rows_above kind above
 operation_of task next.Looks = get_of task.wish
 operation_of task (next.Sets version) = set_of task.wish version
 operation_of task (next.Writes cap from mark piece) = write_of cap from piece

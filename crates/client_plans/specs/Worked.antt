@@ -70,6 +70,15 @@ a_registration = order.Register (record { 0 = 7 }) 1 (codes "127.0.0.1:7402")
 abbrev pub a_row : RegistryRow
 a_row = record { node = record { 0 = 7 }; kind = 1; address = codes "127.0.0.1:7402"; version = 3 }
 
+abbrev pub an_mrc : RegistryRow
+an_mrc = record { node = record { 0 = 901 }; kind = 2; address = codes "127.0.0.1:7401"; version = 1 }
+
+abbrev pub an_osd : RegistryRow
+an_osd = record { node = record { 0 = 4294967295 }; kind = 1; address = codes "[::1]:7403"; version = 12 }
+
+abbrev pub a_removal : Order
+a_removal = order.Unregister (record { 0 = 7 })
+
 abbrev pub IsStat : Type 0
 IsStat =
     comes_to (asked_for (order.Stat (codes "/v/f"))) (listed (how.Meta (told.Row row_kind.File 1 2 420 (mark_of 2 200000)) ∷ []))
@@ -144,6 +153,33 @@ IsAbsent =
     × (comes_to (asked_for a_registration) (how.Registry row.Absent ∷ how.Registry (row.Changed 1) ∷ [])
     ≡ quiet (next.Over (status.Refused (ends_by.Changed 1))))
 
+-- a row is removed under the version that it has
+abbrev pub IsUnregistered : Type 0
+IsUnregistered =
+    (comes_to (asked_for a_removal) (how.Registry (row.Row a_row) ∷ []) ≡ quiet (next.Sets 3))
+    × (operation_of (asked_for a_removal) next.Looks ≡ Some (call.Registry (registry.Get (record { 0 = 7 }))))
+    × (operation_of (asked_for a_removal) (next.Sets 3) ≡ Some (call.Registry (registry.Remove (record { 0 = 7 }) 3)))
+    × (comes_to (asked_for a_removal) (how.Registry (row.Row a_row) ∷ how.Registry (row.Done 0) ∷ []) ≡ done [])
+    × (comes_to (asked_for a_removal) (how.Registry (row.Row a_row) ∷ how.Registry (row.Changed 4) ∷ [])
+    ≡ quiet (next.Over (status.Refused (ends_by.Changed 4))))
+
+-- what the DIR answers to the removal of a row that isn't there
+abbrev pub IsNotThere : Type 0
+IsNotThere =
+    (comes_to (asked_for a_removal) (how.Registry row.Absent ∷ []) ≡ quiet (next.Sets 0))
+    × (comes_to (asked_for a_removal) (how.Registry row.Absent ∷ how.Registry row.Absent ∷ [])
+    ≡ quiet (next.Over (status.Refused ends_by.Absent)))
+
+-- All rows are shown by their nodes, those of the MRCs among those of the OSDs, once the last page was told.
+abbrev pub AreShown : Type 0
+AreShown =
+    (operation_of (asked_for order.Nodes) (begins order.Nodes) ≡ Some (call.Registry (registry.List 2 nobody)))
+    × (comes_to (asked_for order.Nodes) (how.Registry (row.Rows (an_mrc ∷ [])) ∷ []) ≡ quiet (next.Collects 1 nobody (an_mrc ∷ [])))
+    × (comes_to (asked_for order.Nodes)
+    (how.Registry (row.Rows (an_mrc ∷ [])) ∷ how.Registry (row.Rows (a_row ∷ an_osd ∷ [])) ∷ [])
+    ≡ done (codes "7 1 127.0.0.1:7402 3" ++ 10 ∷ codes "901 2 127.0.0.1:7401 1" ++ 10 ∷ codes "4294967295 1 [::1]:7403 12" ++ 10 ∷ []))
+    × (comes_to (asked_for order.Nodes) (how.Registry (row.Rows []) ∷ how.Registry (row.Rows []) ∷ []) ≡ done [])
+
 abbrev pub IsRefused : Type 0
 IsRefused =
     comes_to (asked_for (order.Mkdir (codes "/v/d"))) (listed (how.Meta (told.Refused refusal_of.NotFound) ∷ []))
@@ -158,6 +194,8 @@ abbrev pub AsksPages : Type 0
 AsksPages =
     (comes_to (asked_for (order.Ls (codes "/"))) (how.Registry (row.Rows (replicate 256 a_row)) ∷ []) ≡ quiet (next.Lists 2 (record { 0 = 7 })))
     × (comes_to (asked_for (order.Ls (codes "/"))) (how.Registry (row.Rows (replicate 255 a_row)) ∷ []) ≡ quiet (next.Lists 1 nobody))
+    × (comes_to (asked_for order.Nodes) (how.Registry (row.Rows (replicate 256 a_row)) ∷ [])
+    ≡ quiet (next.Collects 2 (record { 0 = 7 }) (replicate 256 a_row)))
     × (operation_of (asked_for (order.Ls (codes "/"))) (next.Pages (codes "m")) ≡ Some (call.Meta 1 2 (meta.List (codes "/") (codes "m"))))
 
 -- where the pieces of writes and reads lie on their objects

@@ -6,7 +6,7 @@
 
 mod stage;
 
-ghost use Rattle.client_plans.specs.Worked.{IsStat, IsStatOfRoot, IsListed, IsEmptyPut, IsPut, IsExisting, IsGet, IsHexGet, IsPastEnd, IsTruncate, IsRegistered, IsAbsent, IsRefused, IsRetried, AsksPages, AsksPieces};
+ghost use Rattle.client_plans.specs.Worked.{IsStat, IsStatOfRoot, IsListed, IsEmptyPut, IsPut, IsExisting, IsGet, IsHexGet, IsPastEnd, IsTruncate, IsRegistered, IsAbsent, IsUnregistered, IsNotThere, AreShown, IsRefused, IsRetried, AsksPages, AsksPieces};
 
 pub use stage::{Goes, Stage};
 
@@ -24,6 +24,9 @@ pub fn worked_commands()
     ensures truncate { IsTruncate }
     ensures registered { IsRegistered }
     ensures absent { IsAbsent }
+    ensures unregistered { IsUnregistered }
+    ensures not_there { IsNotThere }
+    ensures shown { AreShown }
     ensures refused { IsRefused }
     ensures retried { IsRetried }
     ensures pages { AsksPages }

@@ -4,7 +4,7 @@ ghost use Rattle.std.specs.Prelude.{◌≡◌};
 ghost use Rattle.client_plans.specs.Plans.{status_at};
 
 use xt_base::{Name, NodeId, Octets, SizeMark};
-use xt_messages::{Capability, Status};
+use xt_messages::{Capability, RegistryRows, Status};
 
 /// How far a command is: which operation is its next one, or how it ended.
 #[derive(Drop)]
@@ -14,7 +14,13 @@ pub enum Stage {
         kind: u8,
         above: NodeId,
     },
-    /// The version of a row, and then its setting.
+    /// The rows of a kind, with nodes above this one, for a command that shows them; and those that it was told before.
+    Collects {
+        kind: u8,
+        above: NodeId,
+        rows: RegistryRows,
+    },
+    /// The version of a row, and then its setting or its removal.
     Looks,
     Sets {
         version: u64,

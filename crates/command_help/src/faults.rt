@@ -37,7 +37,7 @@ fn rule_broken(name: &str, found: &ArgMatches<'_>) -> &'static str {
         "error: '--at' and '--len' are given together\n"
     } else if name == "get" && found.get_str("at").is_some() {
         "error: '--at' and '--len' together are at most 281474976710656\n"
-    } else if name == "register" {
+    } else if name == "register" || name == "unregister" {
         "error: the directory service (900) isn't in its own registry: commands and nodes are given its address with '--dir'\n"
     } else {
         "error: twice '--drift' (1000 where it isn't given) must be less than '--lease' (14000)\n"

@@ -121,6 +121,12 @@ register_app inside =
     (placed 1 (codes "node")
     (plain_app (codes "register")))))
 
+unfoldable pub unregister_app : Bool → App
+unregister_app inside = client_options inside (placed 1 (codes "node") (plain_app (codes "unregister")))
+
+unfoldable pub nodes_app : Bool → App
+nodes_app inside = client_options inside (plain_app (codes "nodes"))
+
 unfoldable pub mkdir_app : Bool → App
 mkdir_app inside = client_options inside (placed 1 (codes "path") (plain_app (codes "mkdir")))
 
@@ -182,10 +188,16 @@ with_runs all = joined (joined (joined all (replay_app)) (audit_app)) (make_app)
 unfoldable pub with_nodes : App → App
 with_nodes all = joined (joined (joined (joined all (osd_app)) (mrc_app)) (dir_app)) (cluster_app)
 
+unfoldable pub with_registry_commands : Bool → App → App
+with_registry_commands inside all =
+    joined (joined (joined all
+    (register_app inside))
+    (unregister_app inside))
+    (nodes_app inside)
+
 unfoldable pub with_tree_commands : Bool → App → App
 with_tree_commands inside all =
-    joined (joined (joined (joined (joined (joined all
-    (register_app inside))
+    joined (joined (joined (joined (joined all
     (mkdir_app inside))
     (rmdir_app inside))
     (rm_app inside))
@@ -218,4 +230,4 @@ base_app inside = if inside then top_app else with_nodes (with_runs top_app)
 
 -- all commands, or those that may stand in a line of a cluster
 unfoldable pub program_app : Bool → App
-program_app inside = with_file_commands inside (with_tree_commands inside (base_app inside))
+program_app inside = with_file_commands inside (with_tree_commands inside (with_registry_commands inside (base_app inside)))

@@ -97,7 +97,7 @@ who_of base rows =
 
 -- ---- the work of clients
 
--- A node that may be registered: no node has the number 0, and the directory service isn't in its own registry.
+-- The node whose row of the registry is meant: no node has the number 0, and the directory service isn't in its own registry.
 unfoldable pub registered_at : Rows → Option NodeId
 registered_at rows = option_and_then (λ node. if not (node.0 == 0) && not (node.0 == 900) then Some node else None) (node_at (codes "node") rows)
 
@@ -107,6 +107,9 @@ register_of rows =
     (address_at (codes "addr") rows))
     (number_at 1 2 (codes "kind") rows))
     (registered_at rows)
+
+unfoldable pub unregister_of : Rows → Option Order
+unregister_of rows = option_map (λ node. order.Unregister node) (registered_at rows)
 
 unfoldable pub mv_of : Rows → Option Order
 mv_of rows =
@@ -194,15 +197,21 @@ file_order inside name rows =
     else if named (codes "truncate") name then truncate_of rows
     else None
 
-unfoldable pub order_of : Bool → Text → Rows → Option Order
-order_of inside name rows =
-    if named (codes "register") name then register_of rows
-    else if named (codes "mkdir") name then mkdir_of rows
+unfoldable pub tree_order : Bool → Text → Rows → Option Order
+tree_order inside name rows =
+    if named (codes "mkdir") name then mkdir_of rows
     else if named (codes "rmdir") name then rmdir_of rows
     else if named (codes "rm") name then rm_of rows
     else if named (codes "mv") name then mv_of rows
     else if named (codes "chmod") name then chmod_of rows
     else file_order inside name rows
+
+unfoldable pub order_of : Bool → Text → Rows → Option Order
+order_of inside name rows =
+    if named (codes "register") name then register_of rows
+    else if named (codes "unregister") name then unregister_of rows
+    else if named (codes "nodes") name then Some order.Nodes
+    else tree_order inside name rows
 
 unfoldable pub directory_at : Bool → Rows → Option (Option Text)
 directory_at inside rows =

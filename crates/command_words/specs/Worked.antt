@@ -53,6 +53,8 @@ in_range =
     codes "dir --listen 127.0.0.1:7400 --store s900 --key 00ff --turns 1 --limit 1" ∷
     codes "cluster --osds 50 --port 65000 --store s --key 00ff" ∷
     codes "register 4294967295 2 127.0.0.1:7401 --dir 127.0.0.1:7400" ∷
+    codes "unregister 4294967295 --dir 127.0.0.1:7400" ∷
+    codes "nodes --dir 127.0.0.1:7400 --tries 1" ∷
     codes "mkdir /a --dir 127.0.0.1:7400" ∷
     codes "rmdir --dir 127.0.0.1:7400 /a" ∷
     codes "rm /a --dir 127.0.0.1:7400 --key 00" ∷
@@ -69,6 +71,8 @@ in_range =
 
 abbrev pub lines_in_range : List Text
 lines_in_range =
+    codes "unregister 1" ∷
+    codes "nodes" ∷
     codes "mkdir /a" ∷
     codes "put /a --pattern 10" ∷
     codes "get /a --hex --id 501" ∷
@@ -133,6 +137,15 @@ out_of_range =
     codes "register 900 1 a --dir 127.0.0.1:7400" ∷
     codes "register 1 0 a --dir 127.0.0.1:7400" ∷
     codes "register 1 3 a --dir 127.0.0.1:7400" ∷
+    codes "unregister 4294967296 --dir 127.0.0.1:7400" ∷
+    codes "unregister 0 --dir 127.0.0.1:7400" ∷
+    codes "unregister 900 --dir 127.0.0.1:7400" ∷
+    codes "unregister 01 --dir 127.0.0.1:7400" ∷
+    codes "unregister --dir 127.0.0.1:7400" ∷
+    codes "unregister 1" ∷
+    codes "unregister 1 1 --dir 127.0.0.1:7400" ∷
+    codes "nodes" ∷
+    codes "nodes 1 --dir 127.0.0.1:7400" ∷
     codes "register 1 1 aaaaaaaaaaaaaaaaaaaaaaaaaaaaaaaaaaaaaaaaaaaaaaaaaaaaaaaaaaaaaaaaa --dir 127.0.0.1:7400" ∷
     codes "mkdir /a" ∷
     codes "mkdir --dir 127.0.0.1:7400" ∷
@@ -163,6 +176,8 @@ out_of_range =
 abbrev pub lines_out_of_range : List Text
 lines_out_of_range =
     codes "replay" ∷
+    codes "unregister 900" ∷
+    codes "nodes --dir 127.0.0.1:7400" ∷
     codes "put /a" ∷
     codes "mkdir /a --dir 127.0.0.1:7400" ∷
     codes "mkdir  /a" ∷

@@ -68,6 +68,11 @@ pub enum Order {
         kind: u8,
         address: Address,
     },
+    Unregister {
+        node: NodeId,
+    },
+    /// Lists the registry.
+    Nodes,
     Mkdir {
         path: Name,
     },

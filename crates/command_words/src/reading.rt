@@ -2,7 +2,7 @@
 
 ghost use Rattle.std.specs.Prelude.{◌≡◌, ◌≤◌, IfSome, IfOk, codes, option_map};
 ghost use Rattle.clap.specs.Words.{first_of, subcommand_rows_of};
-ghost use Rattle.command_words.specs.Jobs.{rows_in, number_at, number_or_at, number_if_at, node_at, node_or_at, path_at, address_at, mode_at, settings_of, who_of, registered_at, register_of, mv_of, chmod_of, mkdir_of, rmdir_of, rm_of, ls_of, stat_of, flag_at, key_at, key_if_at, layout_at, stripe_at, pattern_at, put_of, range_at, get_of, truncate_of, file_order, order_of, directory_at, client_of, serving_of, make_of, osd_of, mrc_of, dir_of, given_of, cluster_of, node_job, job_in, chosen_in};
+ghost use Rattle.command_words.specs.Jobs.{rows_in, number_at, number_or_at, number_if_at, node_at, node_or_at, path_at, address_at, mode_at, settings_of, who_of, registered_at, register_of, unregister_of, mv_of, chmod_of, mkdir_of, rmdir_of, rm_of, ls_of, stat_of, flag_at, key_at, key_if_at, layout_at, stripe_at, pattern_at, put_of, range_at, get_of, truncate_of, file_order, tree_order, order_of, directory_at, client_of, serving_of, make_of, osd_of, mrc_of, dir_of, given_of, cluster_of, node_job, job_in, chosen_in};
 ghost use Rattle.std.specs.Str.{bytes_eq};
 
 use crate::job::{
@@ -189,7 +189,7 @@ pub(crate) fn who_of(base: &Who, found: &ArgMatches<'_>) -> Option<Who>
     })
 }
 
-/// The node that is to be registered: not 0, which is no node's number, and not the DIR, which isn't in its own registry.
+/// The node whose row of the registry is meant: not 0, which is no node's number, and not the DIR, which isn't in its own registry.
 #[tactic(auto, unfolding(crate::specs::Jobs::registered_at))]
 fn registered_at(found: &ArgMatches<'_>) -> Option<NodeId>
     ensures { result ≡ registered_at (rows_in found.now) }
@@ -215,6 +215,15 @@ pub(crate) fn register_of(found: &ArgMatches<'_>) -> Option<Order>
         kind,
         address,
     })
+}
+
+/// `unregister`
+#[tactic(auto, unfolding(crate::specs::Jobs::unregister_of))]
+fn unregister_of(found: &ArgMatches<'_>) -> Option<Order>
+    ensures { result ≡ unregister_of (rows_in found.now) }
+{
+    let node = registered_at(found)?;
+    Some(Order::Unregister { node })
 }
 
 /// `mv`
@@ -497,6 +506,31 @@ fn file_order(
     }
 }
 
+/// The commands on the tree of names, and those on what a path names.
+#[tactic(auto, unfolding(crate::specs::Jobs::tree_order))]
+fn tree_order(
+    alloc: Global,
+    inside: bool,
+    name: &str,
+    found: &ArgMatches<'_>,
+) -> Result<Option<Order>, OutOfMemory>
+    ensures { IfOk result (λ order. order ≡ tree_order inside name.now (rows_in found.now)) }
+{
+    if is_word(name, "mkdir") {
+        mkdir_of(alloc, found)
+    } else if is_word(name, "rmdir") {
+        rmdir_of(alloc, found)
+    } else if is_word(name, "rm") {
+        rm_of(alloc, found)
+    } else if is_word(name, "mv") {
+        mv_of(alloc, found)
+    } else if is_word(name, "chmod") {
+        chmod_of(alloc, found)
+    } else {
+        file_order(alloc, inside, name, found)
+    }
+}
+
 /// The commands of a client.
 #[tactic(auto, unfolding(crate::specs::Jobs::order_of))]
 fn order_of(
@@ -509,18 +543,12 @@ fn order_of(
 {
     if is_word(name, "register") {
         Ok(register_of(found))
-    } else if is_word(name, "mkdir") {
-        mkdir_of(alloc, found)
-    } else if is_word(name, "rmdir") {
-        rmdir_of(alloc, found)
-    } else if is_word(name, "rm") {
-        rm_of(alloc, found)
-    } else if is_word(name, "mv") {
-        mv_of(alloc, found)
-    } else if is_word(name, "chmod") {
-        chmod_of(alloc, found)
+    } else if is_word(name, "unregister") {
+        Ok(unregister_of(found))
+    } else if is_word(name, "nodes") {
+        Ok(Some(Order::Nodes))
     } else {
-        file_order(alloc, inside, name, found)
+        tree_order(alloc, inside, name, found)
     }
 }
 

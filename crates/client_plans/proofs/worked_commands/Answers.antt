@@ -1,7 +1,7 @@
 use Rattle.std.proofs.Common.{refl}
 use Rattle.std.specs.Fmt.{digits}
 use Rattle.client_plans.specs.Plans.{after, goes_by, operation_of}
-use Rattle.client_plans.specs.Worked.{IsStat, IsStatOfRoot, IsListed, IsEmptyPut, IsPut, IsExisting, IsGet, IsHexGet, IsPastEnd, IsTruncate, IsRegistered, IsAbsent, IsRefused, IsRetried, AsksPages, AsksPieces}
+use Rattle.client_plans.specs.Worked.{IsStat, IsStatOfRoot, IsListed, IsEmptyPut, IsPut, IsExisting, IsGet, IsHexGet, IsPastEnd, IsTruncate, IsRegistered, IsAbsent, IsUnregistered, IsNotThere, AreShown, IsRefused, IsRetried, AsksPages, AsksPieces}
 use Rattle.client_plans.proofs.worked_commands.Goals as goal
 
 a_stat : IsStat
@@ -52,6 +52,18 @@ a_new_registration : IsAbsent
 unfolding after goes_by
 a_new_registration = (refl, refl)
 
+a_removal_of_a_row : IsUnregistered
+unfolding after goes_by operation_of
+a_removal_of_a_row = (refl, refl, refl, refl, refl)
+
+a_removal_of_none : IsNotThere
+unfolding after goes_by
+a_removal_of_none = (refl, refl)
+
+all_rows : AreShown
+unfolding after goes_by operation_of digits
+all_rows = (refl, refl, refl, refl)
+
 a_refusal : IsRefused
 unfolding after goes_by
 a_refusal = refl
@@ -62,7 +74,7 @@ a_retry = refl
 
 whole_pages : AsksPages
 unfolding after goes_by operation_of
-whole_pages = (refl, refl, refl)
+whole_pages = (refl, refl, refl, refl)
 
 whole_pieces : AsksPieces
 unfolding operation_of
@@ -82,6 +94,9 @@ returns c = record {
   truncate = a_truncation;
   registered = a_registration_over_a_row;
   absent = a_new_registration;
+  unregistered = a_removal_of_a_row;
+  not_there = a_removal_of_none;
+  shown = all_rows;
   refused = a_refusal;
   retried = a_retry;
   pages = whole_pages;
