@@ -1,0 +1,4 @@
+pub mod Taken
+pub mod Outcomes
+pub mod Open
+pub mod Versions
