@@ -1,0 +1,3 @@
+pub mod OpenLists
+pub mod Gives
+pub mod AtOnce

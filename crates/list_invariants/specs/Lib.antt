@@ -1,0 +1,5 @@
+pub mod OpenLists
+pub mod Sound
+pub mod Keeping
+pub mod OpenAsks
+pub mod AtOnce
