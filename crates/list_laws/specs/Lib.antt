@@ -1,3 +1,4 @@
 pub mod Takes
 pub mod Outcomes
 pub mod Versions
+pub mod Saying

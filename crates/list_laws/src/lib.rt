@@ -14,6 +14,7 @@ ghost use Rattle.xt_protocol.specs.FileStates.{FileState, FileStep, Site};
 ghost use Rattle.xt_protocol.specs.FileSteps.{message_comes};
 ghost use Rattle.list_rows.specs.ListRows.{message_taken, step_of_message, with_version};
 ghost use Rattle.list_laws.specs.Outcomes.{RowGives};
+ghost use Rattle.list_laws.specs.Saying.{Says};
 ghost use Rattle.list_laws.specs.Takes.{IsOpenAt, ListRow, StepTakes, Takes};
 ghost use Rattle.list_laws.specs.Versions.{CarriesVersion, SaysTheSame};
 
@@ -38,6 +39,14 @@ pub fn an_open_list_is_taken()
 pub fn own_rows_give_so()
     ensures { (site : Site) (s : FileState) (from : NodeId) (content : Payload) (step : FileStep) →
         ListRow site s from content step → RowGives site s from content step }
+{}
+
+/// What a row of its own says of the file is so once the row is done: a Closed that the file is closed at that version, with this head, and so
+/// on.
+pub fn own_rows_say_what_is_so()
+    ensures { (site : Site) (s : FileState) (from : NodeId) (content : Payload) (step : FileStep) →
+        ListRow site s from content step →
+        AllByRecursion (Says site step.state.kept) step.turned.outs }
 {}
 
 /// A whole step is so too: the step of the rows of one list, or what is overdue and then a row of its own.
