@@ -1,0 +1,9 @@
+pub mod Outs
+pub mod Learning
+pub mod Records
+pub mod Follows
+pub mod Versions
+pub mod LeaseOuts
+pub mod OsdLeases
+pub mod Acts
+pub mod Closed

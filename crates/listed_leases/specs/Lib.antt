@@ -1,0 +1,5 @@
+pub mod LeaseView
+pub mod VersionView
+pub mod OsdView
+pub mod OutsView
+pub mod ActsView
