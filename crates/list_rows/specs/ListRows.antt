@@ -96,7 +96,7 @@ takes_list site s from location head =
     and_then (lets_go site (record s { acceptor = new_acceptor s.acceptor.boot }))
     (λ state. steps_to state (record (tells_installed site state from location) { rec = Some (kept.Install s.kept.file location head) }))
 
--- list taken where each version of its head is held; else the source is asked for the body of the least object that lacks
+-- list taken where each version that its head names is held; else the source is asked for the one of the least object that is missing
 abbrev pub takes_or_pulls : Site → FileState → NodeId → Location → FileHead → NodeId → Option ObjectVersion → FileStep
 takes_or_pulls site s from location head source None = takes_list site s from location head
 takes_or_pulls site s from location head source (Some v) =
