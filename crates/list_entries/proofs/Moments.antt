@@ -1,7 +1,6 @@
 -- a list of entries with one more, and a prefix of it
 use Rattle.std.proofs.Common.{◌≡◌, ℕ, ◌⊎◌, inl, inr, List, [], ◌∷◌, ◌++◌, refl, sym, ap, ◌∙◌, subst, append_assoc, true}
 use Rattle.xt_base.specs.MemberList.{has_node}
-use Rattle.xt_base.specs.declared.ids.NodeId.{NodeId}
 use Rattle.time_line.specs.declared.entry.Entry.{Entry}
 use Rattle.time_line.specs.declared.entry.Entry.TheVariants as entry
 use Rattle.time_line.specs.Clauses.{IsBefore, IsMoment}

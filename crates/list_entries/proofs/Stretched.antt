@@ -1,5 +1,5 @@
 -- stretches rise, and each lease was told in one
-use Rattle.std.proofs.Common.{◌≡◌, ℕ, suc, ◌+◌, ◌<◌, ◌≤◌, List, [], ◌∷◌, ◌++◌, refl, sym, ap, ◌∙◌, subst, arith, Option, Some, None, Bool, true, false, cond}
+use Rattle.std.proofs.Common.{◌≡◌, ℕ, ◌+◌, ◌<◌, ◌≤◌, List, [], ◌∷◌, ◌++◌, refl, sym, ap, ◌∙◌, subst, arith, Option, Some, None, Bool, true, false}
 use Rattle.std.specs.Prelude.{◌==◌, ◌&&◌, if◌then◌else◌}
 use Rattle.std.specs.List.{fold}
 use Rattle.std.proofs.lemmas.List.Sums.{fold-append}
@@ -11,8 +11,8 @@ use Rattle.time_line.specs.declared.entry.Entry.TheVariants as entry
 use Rattle.time_line.specs.TimeLine.{RunningBoot, standing, standing_after, reads, advances, held_until}
 use Rattle.time_line.specs.Clauses.{IsMoment}
 use Rattle.list_entries.specs.Stretches.{stretch_after, stretch_in, Told, forgets_end, tells_end, told_after, told_at, told_in}
-use Rattle.list_entries.specs.Laws.{IsToldIn, HoldsByAStretch}
-use Rattle.list_entries.proofs.Pushed.{stretch_first, stretch-push, told_first, told-push, nothing_told}
+use Rattle.list_entries.specs.Laws.{HoldsByAStretch}
+use Rattle.list_entries.proofs.Pushed.{stretch_first, stretch-push, told_first, told-push}
 
 -- ---- a trace from its end
 

@@ -1,13 +1,12 @@
 -- what one more entry changes, and what holds of a prefix
-use Rattle.std.specs.Prelude.{ℕ, Bool, true, false, ◌≡◌, ◌≤◌, Option, Some, None, List, [], ◌∷◌, ◌++◌}
+use Rattle.std.specs.Prelude.{ℕ, true, ◌≡◌, ◌≤◌, Option, Some, None, List}
 use Rattle.xt_base.specs.MemberList.{has_node}
 use Rattle.xt_base.specs.declared.ids.NodeId.{NodeId}
 use Rattle.xt_messages.specs.declared.file.Location.{Location}
 use Rattle.time_line.specs.declared.entry.Entry.{Entry}
 use Rattle.time_line.specs.declared.entry.Entry.TheVariants as entry
 use Rattle.time_line.specs.TimeLine.{RunningBoot, location_told, location_in, standing}
-use Rattle.time_line.specs.Clauses.{IsMoment}
-use Rattle.list_entries.specs.Stretches.{list_told, last_list, list_or, members_at, members_in, MembersHold, stretch_after, stretch_in, is_list_of, told_after, told_at, told_in}
+use Rattle.list_entries.specs.Stretches.{list_told, last_list, list_or, members_at, members_in, stretch_in, told_in}
 
 -- the list in force after one more entry: a `list` entry of the file gives a new one; where there is none yet, a first `file` entry does
 abbrev pub or_told : Option Location → Option Location → Option Location
