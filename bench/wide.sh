@@ -1,5 +1,6 @@
 #!/usr/bin/env bash
-# A file of 2 GiB, striped over three OSDs: the DIR, the MRC and the OSDs are processes of the built program on the loopback.
+# A file of 2 GiB, striped over five OSDs: the DIR, the MRC and the OSDs are processes of the built program on the loopback. (A store has at
+# most 1 GiB, of which an OSD fills about half before a compaction finds no room: three or four would be full.)
 #   bench/wide.sh [PROGRAM]
 # Prints how long its put and its get took, how long each OSD's store is then, and its greatest resident memory. What is read is compared
 # with what was written. Needs 3 GiB of room for temporary files; ends by itself, in a minute or two.
@@ -17,6 +18,7 @@ import time
 PROGRAM = sys.argv[1]
 TIMES = ["--lease", "2000", "--drift", "200"]
 SIZE = 1 << 31
+OSDS = 5
 # The pattern's byte at a place is the place modulo 251.
 ROUND = bytes(range(251)) * 4096
 
@@ -57,7 +59,7 @@ def is_pattern(source):
 
 
 def main():
-    directory, metadata, *devices = (f"127.0.0.1:{free_port()}" for _ in range(5))
+    directory, metadata, *devices = (f"127.0.0.1:{free_port()}" for _ in range(2 + OSDS))
     children = []
     with tempfile.TemporaryDirectory() as folder:
         try:
@@ -69,9 +71,9 @@ def main():
                 children.append(started(words))
                 ends_well(["register", str(number), "1", address], directory)
             ends_well(["mkdir", "/v"], directory)
-            ends_well(["put", "/v/small", "--striped", "3", "--pattern", "1"], directory)
+            ends_well(["put", "/v/small", "--striped", str(OSDS), "--pattern", "1"], directory)
             before = time.monotonic()
-            ends_well(["put", "/v/wide", "--striped", "3", "--pattern", str(SIZE)], directory)
+            ends_well(["put", "/v/wide", "--striped", str(OSDS), "--pattern", str(SIZE)], directory)
             put = time.monotonic() - before
             before = time.monotonic()
             get = subprocess.Popen([PROGRAM, "get", "/v/wide", "--dir", directory, *TIMES], stdin=subprocess.DEVNULL, stdout=subprocess.PIPE)
