@@ -99,12 +99,16 @@ later_pairs by (r ∷ records) [] are = absurd are
 later_pairs by (r ∷ records) (p ∷ places) are = (pair_elsewhere r p (later by p) refl are.0, later_pairs by records places are.1)
 
 module _ (bytes : BodyPlace → List ℕ) where
+  pub filled-append : (records : List Record) (places : List BodyPlace) (recs : List Record) (more : List BodyPlace) → ArePairs records places
+      → filled bytes (records ++ recs) (places ++ more) ≡ filled bytes records places ++ filled bytes recs more
+  filled-append [] [] recs more are = refl
+  filled-append [] (p ∷ places) recs more are = absurd are
+  filled-append (r ∷ records) [] recs more are = absurd are
+  filled-append (r ∷ records) (p ∷ places) recs more are = ap (λ l. with_body (bytes p) r ∷ l) (filled-append records places recs more are.1)
+
   pub filled-push : (records : List Record) (places : List BodyPlace) (rec : Record) (place : BodyPlace) → ArePairs records places
       → filled bytes (records ++ rec ∷ []) (places ++ place ∷ []) ≡ filled bytes records places ++ with_body (bytes place) rec ∷ []
-  filled-push [] [] rec place are = refl
-  filled-push [] (p ∷ places) rec place are = absurd are
-  filled-push (r ∷ records) [] rec place are = absurd are
-  filled-push (r ∷ records) (p ∷ places) rec place are = ap (λ l. with_body (bytes p) r ∷ l) (filled-push records places rec place are.1)
+  filled-push records places rec place are = filled-append records places (rec ∷ []) (place ∷ []) are
 
   pub length-filled : (records : List Record) (places : List BodyPlace) → ArePairs records places → length (filled bytes records places) ≡ length records
   length-filled [] [] are = refl
