@@ -36,3 +36,7 @@ module _ (file : FileId) (object : ℕ) (version : Stamp) where
 
     pub kept_below : body_kept recs file object version ≡ None → body_kept records file object version ≡ body_kept lower file object version
     kept_below none = both ∙ ap (newer (body_kept lower file object version)) none
+
+    -- a body that was put is kept
+    pub kept_some : (bytes : List ℕ) → Some bytes ≡ body_kept recs file object version → body_kept records file object version ≡ None → ⊥
+    kept_some bytes is none = let there = kept_here bytes (sym is) in cc

@@ -1,5 +1,5 @@
 -- what putting records does to a store
-use Rattle.std.specs.Prelude.{ℕ, ◌+◌, ◌<◌, ◌≤◌, ◌≡◌, Bool, List, [], ◌∷◌, ◌++◌, length, is_some, IsTrue, Result, Ok, Err}
+use Rattle.std.specs.Prelude.{ℕ, ◌<◌, ◌≤◌, ◌≡◌, Bool, List, [], ◌∷◌, ◌++◌, length, is_some, IsTrue, Result, Ok, Err}
 use Rattle.disk_model.specs.declared.disk.Disk.{Ghosts}
 use Rattle.disk_model.specs.Disk.{IsImage, LeavesOnly}
 use Rattle.xt_base.specs.Faults.{counted, fault_count_after}
@@ -9,7 +9,6 @@ use Rattle.xt_journal.specs.Append.{AreStopped, IsWithAllOrNone}
 use Rattle.journal_records.specs.Calls.{AllSucceed, GoesOn}
 use Rattle.xt_journal.specs.Format.{StandsFor}
 use Rattle.replica_records.specs.Known.{known_of}
-use Rattle.replica_records.specs.RecordText.{record_text}
 use Rattle.object_store.specs.declared.store.Store.{Store}
 use Rattle.object_store.specs.declared.errors.AppendErr.{AppendErr}
 use Rattle.object_store.specs.declared.errors.AppendErr.TheVariants as append

@@ -8,12 +8,17 @@ use Rattle.xt_protocol.specs.Folds.{fold_of, AreInPlace}
 use Rattle.xt_journal.specs.Access.{place_of, limit_of}
 use Rattle.replica_records.specs.Known.{as_known, known_of}
 use Rattle.replica_records.specs.RecordText.{record_text}
+use Rattle.xt_journal.specs.Format.{open_gate, record_of}
+use Rattle.xt_journal.specs.Reading.{placed_from}
+use Rattle.object_store.specs.declared.log.StoreLog.{StoreLog}
 use Rattle.object_store.specs.declared.store.Store.{Store}
 use Rattle.object_store.specs.declared.waiting.Waiting.{Waiting}
 use Rattle.object_store.specs.declared.waiting.StageErr.{StageErr}
 use Rattle.object_store.specs.declared.waiting.StageErr.TheVariants.{Full, OutOfMemory}
 use Rattle.object_store.specs.Access.{journal_of, records_of}
-use Rattle.object_store.specs.Logs.{records_in}
+use Rattle.object_store.specs.Bare.{bare_of}
+use Rattle.object_store.specs.Logs.{bare_in, places_in, records_in}
+use Rattle.object_store.specs.Places.{places_of}
 
 -- their bytes, as they will be on the disk from the journal's end on: each payload after an open gate and its length
 abbrev pub bytes_of : Waiting → List ℕ
@@ -62,9 +67,10 @@ pub record IsOverLimit {D : Type 0} {g : Ghosts D} (store : Store D g) (needed n
   pub need_is : need ≡ counted needed
   pub limit_is : limit ≡ limit_of (journal_of store)
 
-abbrev pub IsNoRoom : {D : Type 0} {g : Ghosts D} → Store D g → ℕ → StageErr → Type 0
-IsNoRoom store needed (Full need limit) = IsOverLimit store needed need limit
-IsNoRoom store needed OutOfMemory = ⊥
+-- why a record isn't staged, for which the journal would need so many bytes
+abbrev pub IsRefused : {D : Type 0} {g : Ghosts D} → Store D g → ℕ → StageErr → Type 0
+IsRefused store needed (Full need limit) = IsOverLimit store needed need limit
+IsRefused store needed OutOfMemory = Unit {0}
 
 -- nothing waits but what waited before
 abbrev pub IsStill : Waiting → Waiting → Type 0
@@ -76,3 +82,23 @@ Stages store old rec new (Ok done) = IsStaged store old rec new
 Stages store old rec new (Err (Full need limit)) =
     IsOverLimit store (end_with store (recs_of old) + (6 + length (record_text rec))) need limit × IsStill old new
 Stages store old rec new (Err OutOfMemory) = IsStill old new
+
+-- ---- the parts of what waits, while a record is added to them
+
+-- it is after the others, and the journal has room for all of them
+pub record IsAdded {D : Type 0} {g : Ghosts D} (store : Store D g) (rec : Record) (old new : List ℕ) (old_log new_log : StoreLog) : Type 0 where
+  pub bytes : new ≡ old ++ open_gate ∷ record_of (record_text rec)
+  pub bare : bare_in new_log ≡ bare_in old_log ++ bare_of (rec ∷ [])
+  pub places : places_in new_log ≡ places_in old_log ++ places_of (placed_from (length old) (record_text rec ∷ [])) (rec ∷ [])
+  pub room : (place_of (journal_of store) + length old) + (6 + length (record_text rec)) ≤ limit_of (journal_of store)
+
+-- nothing was added
+pub record IsUnadded (old new : List ℕ) (old_log new_log : StoreLog) : Type 0 where
+  pub bytes : new ≡ old
+  pub bare : bare_in new_log ≡ bare_in old_log
+  pub places : places_in new_log ≡ places_in old_log
+
+abbrev pub Adds : {D T : Type 0} {g : Ghosts D} → Store D g → Record → List ℕ → List ℕ → StoreLog → StoreLog → Result T StageErr → Type 0
+Adds store rec old new old_log new_log (Ok done) = IsAdded store rec old new old_log new_log
+Adds store rec old new old_log new_log (Err error) =
+    IsUnadded old new old_log new_log × IsRefused store ((place_of (journal_of store) + length old) + (6 + length (record_text rec))) error

@@ -9,12 +9,12 @@ use xt_base::{FileId, Octets, Stamp};
 /// The bodies of some records, and of those that wait to be put after them. A body is the one that was put last, so one of a waiting record
 /// comes before all others.
 #[derive(Drop)]
-pub struct Layered<'a, B: Bodies> {
+pub struct Layered<'a, B: Bodies + Drop> {
     lower: B,
     waiting: &'a Waiting,
 }
 
-impl<'a, B: Bodies> Layered<'a, B> {
+impl<'a, B: Bodies + Drop> Layered<'a, B> {
     ghost use Rattle.std.specs.Prelude.{◌≡◌};
     ghost use Rattle.object_store.specs.Layers.{lower_of, waiting_of};
 
@@ -27,7 +27,7 @@ impl<'a, B: Bodies> Layered<'a, B> {
     }
 }
 
-impl<'a, B: Bodies> Bodies for Layered<'a, B> {
+impl<'a, B: Bodies + Drop> Bodies for Layered<'a, B> {
     ghost use Rattle.object_store.specs.Layers.{AgreesOver, lower_of, some_over, waiting_of};
     ghost use Rattle.object_store.specs.Waits.{recs_of};
 
@@ -46,10 +46,12 @@ impl<'a, B: Bodies> Bodies for Layered<'a, B> {
         object: u64,
         version: &Stamp,
     ) -> Result<Octets, BodyErr> {
-        match self.waiting.body(alloc, file, object, version) {
-            Ok(bytes) => Ok(bytes),
-            Err(BodyErr::NoSuchVersion) => self.lower.body(alloc, file, object, version),
-            Err(error) => Err(error),
+        match self.waiting.body(file, object, version) {
+            Some(bytes) => match Octets::of(alloc, bytes) {
+                Ok(body) => Ok(body),
+                Err(_) => Err(BodyErr::OutOfMemory),
+            },
+            None => self.lower.body(alloc, file, object, version),
         }
     }
 }

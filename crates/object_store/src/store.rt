@@ -45,7 +45,7 @@ impl<D: Disk> Store<D> {
     ghost use Rattle.object_store.specs.Bare.{bare_of};
     ghost use Rattle.object_store.specs.Loading.{ArePlaced, IsLoadFrom};
     ghost use Rattle.object_store.specs.Puts.{Puts, PutsAll};
-    ghost use Rattle.object_store.specs.Waits.{CanBePut, IsNoRoom, recs_of};
+    ghost use Rattle.object_store.specs.Waits.{CanBePut, IsRefused, recs_of};
 
     /// The store of the records that the journal's payloads are. Their extents are those that its loading gave. The payloads are read one
     /// at a time.
@@ -118,7 +118,7 @@ impl<D: Disk> Store<D> {
     ///
     /// It makes as many device calls as a put of one record. Memory can only run out before the first of them. After an error the store is
     /// gone, and must be loaded again.
-    pub fn put_all(self, alloc: Global, waiting: Waiting) -> Result<Store<D>, PutAllErr<D>>
+    pub fn put_all(self, waiting: Waiting) -> Result<Store<D>, PutAllErr<D>>
         requires some { 1 ≤ length (recs_of waiting) }
         requires can { CanBePut self (recs_of waiting) }
         ensures { PutsAll self (recs_of waiting) result }
@@ -132,7 +132,7 @@ impl<D: Disk> Store<D> {
             let disk = journal.close();
             return Err(PutAllErr::OutOfMemory { disk });
         };
-        match journal.append_all(&bytes[1..]) {
+        match journal.append_all(&bytes.as_slice()[1..]) {
             Ok(journal) => Ok(Store { journal, log }),
             Err(xt_journal::AppendErr::Broken { count, disk }) => Err(PutAllErr::Broken {
                 count,
@@ -149,10 +149,10 @@ impl<D: Disk> Store<D> {
     /// Whether the journal has room for as many bytes of records as wait, and for a payload more.
     pub(crate) fn room_for(&self, waiting: usize, payload: usize) -> Result<(), StageErr>
         requires { payload < 2 ^ 32 }
-        ensures room { OnOk result (place_of (store.journal_of self.now) + waiting + (6 + payload)
+        ensures room { OnOk result ((place_of (store.journal_of self.now) + waiting) + (6 + payload)
             ≤ limit_of (store.journal_of self.now)) }
-        ensures full { IfErr result (IsNoRoom self.now (place_of (store.journal_of self.now) + waiting
-            + (6 + payload))) }
+        ensures full { IfErr result (IsRefused self.now
+            ((place_of (store.journal_of self.now) + waiting) + (6 + payload))) }
     {
         let len = (waiting as u64).saturating_add(5 + payload as u64);
         match self.journal.need_after(len) {

@@ -11,13 +11,11 @@ ghost use Rattle.object_store.specs.Texts.{texts_of};
 ghost use Rattle.object_store.specs.declared.waiting.StageErr.TheVariants.{OutOfMemory};
 
 use crate::log::StoreLog;
-use crate::preparing::prepare;
+use crate::preparing::add;
 use crate::store::Store;
 use disk_model::Disk;
-use replica_records::BodyErr;
 use std::alloc::{AllocError, Global};
-use xt_base::{FileId, Octets, Stamp};
-use xt_journal::push_record;
+use xt_base::{FileId, Stamp};
 use xt_messages::Record;
 
 /// Records that come after those of a store, and wait to be put on its disk: until then they are in memory alone.
@@ -51,12 +49,10 @@ impl From<AllocError> for StageErr {
 }
 
 impl Waiting {
-    ghost use Rattle.std.specs.Prelude.{◌≡◌, ◌==◌, ◌↔◌, [], Some, None, Err, IfOk, length};
-    ghost use Rattle.xt_base.specs.FieldLimits.{AreBytes};
+    ghost use Rattle.std.specs.Prelude.{◌≡◌, ◌==◌, [], length};
+    ghost use Rattle.std.specs.Option.{option_map};
     ghost use Rattle.xt_messages.specs.Limits.{FitsRecord};
     ghost use Rattle.xt_protocol.specs.Folds.{body_kept, fold_of, IsInPlace};
-    ghost use Rattle.object_versions.specs.KeptBodies.{fault_in};
-    ghost use Rattle.object_versions.specs.declared.errors.BodyErr.TheVariants.{NoSuchVersion};
     ghost use Rattle.object_store.specs.Waits.{CanBePut, Stages, bytes_of, records_with, recs_of};
 
     /// No record.
@@ -83,12 +79,7 @@ impl Waiting {
         requires others { CanBePut store.now (recs_of self.old) }
         ensures { Stages store.now self.old rec.now self.new result }
     {
-        let made = prepare(alloc, &mut self.log, rec, self.bytes.len() as u64)?;
-        let payload = made.bytes.as_slice();
-        store.room_for(self.bytes.len(), payload.len())?;
-        push_record(&mut self.bytes, payload)?;
-        self.log.put(made.bare, made.place);
-        Ok(())
+        add(alloc, &mut self.bytes, &mut self.log, store, rec)
     }
 
     /// Whether no record waits.
@@ -105,28 +96,13 @@ impl Waiting {
         self.bytes.len()
     }
 
-    /// The body that the last of the waiting records put as this version of this object of the file. All bodies are in memory, so this never
-    /// fails.
-    pub fn body(
-        &self,
-        alloc: Global,
-        file: &FileId,
-        object: u64,
-        version: &Stamp,
-    ) -> Result<Octets, BodyErr>
-        ensures found { IfOk result (λ bytes.
-            body_kept (recs_of self.now) file.now object version.now ≡ Some bytes) }
-        ensures missing { (result ≡ Err NoSuchVersion) ↔
-            (body_kept (recs_of self.now) file.now object version.now ≡ None) }
-        ensures sound { fault_in result ≡ None }
+    /// The body that the last of the waiting records put as this version of this object of the file; none where none of them did.
+    pub fn body(&self, file: &FileId, object: u64, version: &Stamp) -> Option<&[u8]>
+        ensures { option_map (λ body. body.now) result ≡
+            body_kept (recs_of self.now) file.now object version.now }
     {
-        let Some(place) = self.log.place(file, object, version) else {
-            return Err(BodyErr::NoSuchVersion);
-        };
+        let place = self.log.place(file, object, version)?;
         let from = place.at as usize;
-        match Octets::of(alloc, &self.bytes[from..from + place.len]) {
-            Ok(body) => Ok(body),
-            Err(_) => Err(BodyErr::OutOfMemory),
-        }
+        Some(&self.bytes.as_slice()[from..from + place.len])
     }
 }

@@ -48,10 +48,10 @@ reached_all : (super : Option Superblock) (bytes : List ℕ) (payloads more : Li
     → Reached super bytes (payloads ++ more) rest
 reached_all super bytes payloads [] rest given is = subst (λ (ps : List (List ℕ)). Reached super bytes ps rest) (sym (append-nil payloads)) is
 reached_all super bytes payloads (p ∷ more) rest given is =
-    let behind : records (p ∷ more) ++ rest ≡ open_gate ∷ (record_of p ++ (records more ++ rest)) =
+    let next : records (p ∷ more) ++ rest ≡ open_gate ∷ (record_of p ++ (records more ++ rest)) =
     ap (λ (l : List ℕ). open_gate ∷ l) (append_assoc (record_of p) (records more) rest) in
     let one : Reached super bytes (payloads ++ p ∷ []) (records more ++ rest) =
-    reached_more super bytes payloads p (records more ++ rest) (given 0 [] (omega arith)) (subst (Reached super bytes payloads) behind is) in
+    reached_more super bytes payloads p (records more ++ rest) (given 0 [] (omega arith)) (subst (Reached super bytes payloads) next is) in
     subst (λ (ps : List (List ℕ)). Reached super bytes ps rest) (append_assoc payloads (p ∷ []) more)
     (reached_all super bytes (payloads ++ p ∷ []) more rest (λ k d inside. given (suc k) d (omega (arith, inside))) one)
 

@@ -13,7 +13,7 @@ IsWithAllOrNone payloads more image = StandsFor image payloads ⊎ StandsFor ima
 abbrev pub IsWithOrWithout : List (List ℕ) → List ℕ → List ℕ → Type 0
 IsWithOrWithout payloads payload image = IsWithAllOrNone payloads (payload ∷ []) image
 
--- An append that is stopped in this one of its four calls has its records exactly where the first one's gate was being written or
+-- An append that is stopped in this one of its four calls has its records exactly when the first one's gate was being written or
 -- synced, and its byte is the open gate's.
 abbrev pub payloads_after : ℕ → ℕ → List (List ℕ) → List (List ℕ) → List (List ℕ)
 payloads_after call fill payloads more = if nat_le 3 call && (fill == open_gate) then payloads ++ more else payloads

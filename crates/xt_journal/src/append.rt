@@ -5,7 +5,7 @@ ghost use Rattle.xt_journal.specs.Append.{GoAt, GoesAt, IsRunOf, IsTurn, IsWithA
 ghost use Rattle.xt_journal.specs.Appended.{Appends, AppendsAll, MakesCalls};
 ghost use Rattle.journal_records.specs.Calls.{GoesOn, AllSucceed};
 ghost use Rattle.journal_areas.specs.declared.superblock.Superblock.{Superblock};
-ghost use Rattle.xt_journal.specs.Format.{record_of, records, KeepsIn};
+ghost use Rattle.xt_journal.specs.Format.{open_gate, record_of, KeepsIn};
 ghost use Rattle.xt_journal.specs.Refused.{is_broken};
 
 use byteorder::{BigEndian, ByteOrder};
@@ -57,14 +57,17 @@ pub fn piece_of(alloc: Global, payload: &[u8]) -> Result<Vec<u8>, OutOfMemory>
 /// Adds the record of a payload to these bytes, after an open gate: as it stands in a journal.
 pub fn push_record(bytes: &mut Vec<u8>, payload: &[u8]) -> Result<(), OutOfMemory>
     requires { length payload.now < 2 ^ 32 }
-    ensures done { OnOk result (bytes.new.items ≡ bytes.old.items ++ records (payload.now ∷ [])) }
+    ensures done { OnOk result (bytes.new.items ≡
+        bytes.old.items ++ open_gate ∷ record_of payload.now) }
     ensures same { OnErr result (bytes.new.items ≡ bytes.old.items) }
 {
-    let mut front = [OPEN_GATE; 5];
-    BigEndian::write_u32(&mut front[1..], payload.len() as u32);
+    let mut len = [0; 4];
+    BigEndian::write_u32(&mut len, payload.len() as u32);
     bytes.reserve(5 + payload.len())?;
-    bytes.extend_from_slice(&front)?;
-    bytes.extend_from_slice(payload)
+    bytes.extend_from_slice(&[OPEN_GATE]).unwrap();
+    bytes.extend_from_slice(&len).unwrap();
+    bytes.extend_from_slice(payload).unwrap();
+    Ok(())
 }
 
 /// Why a record isn't appended.

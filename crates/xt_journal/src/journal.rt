@@ -235,7 +235,7 @@ impl<D: Disk> Journal<D> {
             (image : List ℕ) → IsImage (D.kept (disk_after_append result)) image →
             IsWithAllOrNone payloads more image }
 
-        // It fails exactly where one of its calls does, and which one that is decides what a crash leaves.
+        // It fails exactly when one of its calls does, and which one that is decides what a crash leaves.
         ensures stopped { IsTrue D.is_told → (payloads more : List (List ℕ)) →
             KeepsJournal (D.kept (disk_of self)) payloads → IsRunOf piece.now more →
             IsSome (append_fault result) →
