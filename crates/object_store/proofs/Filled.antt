@@ -1,6 +1,6 @@
 -- records with the bytes that are in their places
 use Rattle.std.proofs.Common.{◌≡◌, ◌⊎◌, inl, inr, ◌+◌, ◌<◌, ◌≤◌, ℕ, zero, suc, Bool, true, false, List, [], ◌∷◌, ◌++◌, length, map, replicate, get_or, set, take, drop, append_assoc, refl, ap, sym, subst, ◌∙◌, arith}
-use Rattle.std.proofs.lemmas.List.{drop_more, get_or_at, length-map, length-replicate, length-take, length-take-le, map-append, set_at, take_more}
+use Rattle.std.proofs.lemmas.List.{drop_more, get_or_at, length-drop, length-map, length-replicate, length-take, length-take-le, map-append, set_at, take_more}
 use Rattle.xt_base.specs.Faults.{counted}
 use Rattle.xt_messages.specs.declared.record.Record.{Record}
 use Rattle.replica_records.specs.Known.{known_of, without_body}
@@ -87,6 +87,28 @@ pairs-push [] [] rec place are is = (is, tt)
 pairs-push [] (p ∷ places) rec place are is = absurd are
 pairs-push (r ∷ records) [] rec place are is = absurd are
 pairs-push (r ∷ records) (p ∷ places) rec place are is = (are.0, pairs-push records places rec place are.1 is)
+
+-- the first of those that are left, with its place
+module _ (rec : Record) (rest : List Record) (places : List BodyPlace) (i : ℕ) (d : BodyPlace) (are : ArePairs (rec ∷ rest) (drop i places)) where
+  pub place_left : i < length places
+  place_left = at (drop i places) refl are
+    where
+      at : (left : List BodyPlace) → drop i places ≡ left → ArePairs (rec ∷ rest) left → i < length places
+      at [] is pairs = absurd pairs
+      at (p ∷ left) is pairs = omega (arith, ap length is, length-drop i places)
+
+  pub places_left : drop i places ≡ get_or places i d ∷ drop (i + 1) places
+  places_left = drop_more places i d place_left
+
+  pub pair_left : IsPair rec (get_or places i d)
+  pair_left = (subst (ArePairs (rec ∷ rest)) places_left are).0
+
+  pub pairs_left : ArePairs rest (drop (i + 1) places)
+  pairs_left = (subst (ArePairs (rec ∷ rest)) places_left are).1
+
+pub none_left : (left : List BodyPlace) → ArePairs [] left → left ≡ []
+none_left [] are = refl
+none_left (p ∷ left) are = absurd are
 
 -- as long a body in another place is a pair with it too
 pub pair_elsewhere : (rec : Record) (place other : BodyPlace) → other.len ≡ place.len → IsPair rec place → IsPair rec other

@@ -24,12 +24,12 @@ module _ {D : Type 0} {g : Ghosts D} where
   put_fault (Err (append.OutOfMemory store)) = None
 
   -- the same of a put of several records
-  abbrev pub disk_after_put_all : Result (Store D g) (PutAllErr D g) → D
+  abbrev pub disk_after_put_all : Result (Store D g) (PutAllErr D) → D
   disk_after_put_all (Ok store) = disk_of store
   disk_after_put_all (Err (put.Broken count disk)) = disk
   disk_after_put_all (Err (put.OutOfMemory disk)) = disk
 
-  abbrev pub put_all_fault : Result (Store D g) (PutAllErr D g) → Option ℕ
+  abbrev pub put_all_fault : Result (Store D g) (PutAllErr D) → Option ℕ
   put_all_fault (Ok store) = None
   put_all_fault (Err (put.Broken count disk)) = Some count
   put_all_fault (Err (put.OutOfMemory disk)) = None

@@ -1,15 +1,14 @@
 -- what agrees with bodies of records of which the last wait in memory
 use Rattle.std.specs.Prelude.{◌≡◌, refl, List, ◌++◌}
-use Rattle.object_versions.specs.declared.bodies.Bodies.{Ghosts}
 use Rattle.xt_messages.specs.declared.record.Record.{Record}
 use Rattle.object_store.specs.declared.layered.Layered.{Layered}
 use Rattle.object_store.specs.declared.waiting.Waiting.{Waiting}
 
-module _ {B : Type 0} {g : Ghosts B} where
-  abbrev pub lower_of : Layered B g → B
+module _ {B : Type 0} where
+  abbrev pub lower_of : Layered B → B
   lower_of layered = layered.lower
 
-  abbrev pub waiting_of : Layered B g → Waiting
+  abbrev pub waiting_of : Layered B → Waiting
   waiting_of layered = layered.waiting.now
 
 -- These are records that agree with the bodies that were read of the lower ones, and then the ones that wait: those are in memory, so they

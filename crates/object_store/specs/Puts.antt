@@ -57,13 +57,13 @@ pub record PutsTo {D : Type 0} {g : Ghosts D} (old : Store D g) (recs : List Rec
 -- ---- several records at once
 
 -- what comes of it
-abbrev pub PutAllEnds : {D : Type 0} {g : Ghosts D} → Store D g → List Record → Result (Store D g) (PutAllErr D g) → Type 0
+abbrev pub PutAllEnds : {D : Type 0} {g : Ghosts D} → Store D g → List Record → Result (Store D g) (PutAllErr D) → Type 0
 PutAllEnds old recs (Ok new) = ArePut old recs new
 PutAllEnds old recs (Err (put.Broken count disk)) = AreBroken old recs count disk
 PutAllEnds old recs (Err (put.OutOfMemory disk)) = IsUntouched old disk
 
 -- what putting them does
-abbrev pub PutsAll : {D : Type 0} {g : Ghosts D} → Store D g → List Record → Result (Store D g) (PutAllErr D g) → Type 0
+abbrev pub PutsAll : {D : Type 0} {g : Ghosts D} → Store D g → List Record → Result (Store D g) (PutAllErr D) → Type 0
 PutsAll old recs result = PutsTo old recs (PutAllEnds old recs result) (disk_after_put_all result) (is_some (put_all_fault result))
 
 -- ---- one record
