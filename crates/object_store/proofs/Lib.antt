@@ -18,3 +18,4 @@ pub mod BareFolds
 pub mod Callers
 pub mod Waited
 pub mod Layering
+pub mod AtOnce

@@ -143,7 +143,7 @@ module _ (old : List ℕ) (log : StoreLog) (was : AreWaiting old log) (rec : Rec
 
 -- how many bytes a record takes
 pub length_one : (payload : List ℕ) → length (records (payload ∷ [])) ≡ 5 + length payload
-length_one payload = length-push [] payload
+length_one payload = omega (arith, length-push [] payload)
 
 pub end_after-push : (end : ℕ) (recs : List Record) (rec : Record) → end_after end (recs ++ rec ∷ []) ≡ end_after end recs + (5 + length (record_text rec))
 end_after-push end recs rec = fold-append (λ e r. e + (5 + length (record_text r))) end recs (rec ∷ [])
@@ -243,7 +243,7 @@ module _ {D : Type 0} {g : Ghosts D} (store : Store D g) (old new : Waiting) (re
 
 first_gate : (recs : List Record) → 1 ≤ length recs → open_gate ∷ drop 1 (records (texts_of recs) ++ 0 ∷ []) ≡ records (texts_of recs) ++ 0 ∷ []
 first_gate [] some = absurd (omega (arith, some))
-first_gate (r ∷ recs) some = refl
+first_gate (r ∷ rs) some = refl
 
 -- their bytes after the first gate, and the next gate, closed
 pub run_of : (bytes piece : List ℕ) (recs : List Record) → All FitsRecord recs → bytes ≡ records (texts_of recs) → 1 ≤ length recs → piece ≡ drop 1 (bytes ++ 0 ∷ [])
