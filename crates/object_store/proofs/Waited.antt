@@ -1,7 +1,7 @@
 -- records that wait in memory, as the bytes that they will be on the disk
 use Rattle.std.proofs.Common.{◌≡◌, ℕ, ◌+◌, ◌≤◌, ◌<◌, ◌^◌, true, List, [], ◌∷◌, ◌++◌, length, drop, map, refl, sym, ◌∙◌, ap, subst, arith, append_assoc, length-append}
 use Rattle.std.specs.Prelude.{Contains, Result, Ok, Err}
-use Rattle.std.specs.List.{All, AllByRecursion, fold}
+use Rattle.std.specs.List.{All}
 use Rattle.std.proofs.lemmas.List.{append-nil, map-append}
 use Rattle.std.proofs.lemmas.List.Elements.{All-from_recursion, All-push}
 use Rattle.std.proofs.lemmas.List.Sums.{fold-append}
@@ -11,7 +11,7 @@ use Rattle.xt_base.specs.Faults.{counted}
 use Rattle.xt_messages.specs.Limits.{FitsRecord}
 use Rattle.xt_messages.specs.declared.record.Folded.{Folded}
 use Rattle.xt_messages.specs.declared.record.Record.{Record}
-use Rattle.xt_protocol.specs.Folds.{fold_of, AreInPlace, IsInPlace}
+use Rattle.xt_protocol.specs.Folds.{fold_of, IsInPlace}
 use Rattle.xt_journal.specs.Access.{place_of, limit_of}
 use Rattle.xt_journal.specs.Append.{IsRunOf}
 use Rattle.xt_journal.specs.Format.{open_gate, record_of, records}

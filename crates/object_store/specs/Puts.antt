@@ -1,5 +1,5 @@
 -- what putting records does to a store
-use Rattle.std.specs.Prelude.{ℕ, ◌<◌, ◌≤◌, ◌≡◌, Bool, List, [], ◌∷◌, ◌++◌, length, is_some, IsTrue, Result, Ok, Err}
+use Rattle.std.specs.Prelude.{ℕ, ◌<◌, ◌≤◌, ◌≡◌, Bool, List, [], ◌∷◌, ◌++◌, is_some, IsTrue, Result, Ok, Err}
 use Rattle.disk_model.specs.declared.disk.Disk.{Ghosts}
 use Rattle.disk_model.specs.Disk.{IsImage, LeavesOnly}
 use Rattle.xt_base.specs.Faults.{counted, fault_count_after}

@@ -5,8 +5,6 @@ use Rattle.xt_journal.specs.Access.{place_of}
 use Rattle.xt_journal.specs.Format.{open_gate, record_of}
 use Rattle.replica_records.specs.RecordText.{record_text}
 use Rattle.object_store.specs.declared.place.BodyPlace.{BodyPlace}
-use Rattle.object_store.specs.Access.{journal_of}
-use Rattle.object_store.specs.Bare.{bare}
 use Rattle.object_store.specs.Logs.{bare_in, places_in}
 use Rattle.object_store.specs.Places as places
 use Rattle.object_store.specs.Places.{IsPair}
@@ -52,7 +50,7 @@ returns g c =
       places =
           c.put.ensures.places ∙ ap (λ (l : List BodyPlace). l ++ c.in_ok-made.made.place ∷ []) c.prepare.ensures.places
           ∙ ap (λ (p : BodyPlace). places_in log ++ p ∷ [])
-          (c.in_ok-made.ensures.place ∙ ap (λ (gate : ℕ). places.place_of (record { gate = gate; bytes = record_text rec }) rec) c.len.ensures);
+          (c.in_ok-made.ensures.place ∙ ap (λ (gate : ℕ). places.place_of (record { gate = gate; bytes = record_text rec }) rec) (c.len.ensures ∙ c.args.bytes.now.ok.0));
       room = omega (arith, c.in_ok-room_for.ensures.room, c.len-2.ensures, ap length text);
     }
 

@@ -1,9 +1,9 @@
-use Rattle.std.proofs.Common.{◌≡◌, ◌+◌, ◌<◌, ◌++◌, ◌∷◌, [], List, sym, ◌∙◌, ap, subst, append_assoc, drop, get_or, length, arith}
+use Rattle.std.proofs.Common.{◌≡◌, ◌+◌, ◌++◌, ◌∷◌, [], List, sym, ◌∙◌, ap, subst, append_assoc, drop, get_or}
 use Rattle.xt_messages.specs.declared.record.Record.{Record}
 use Rattle.object_store.specs.declared.place.BodyPlace.{BodyPlace}
 use Rattle.object_store.specs.Logs.{bare_in, places_in}
 use Rattle.object_store.specs.Places.{ArePairs, IsPair}
-use Rattle.object_store.proofs.Filled.{none_left, pair_left, pairs_left, place_left, places_left}
+use Rattle.object_store.proofs.Filled.{pair_left, pairs_left, places_left}
 use Rattle.object_store.proofs.log.StoreLog.append.Goals as goal
 
 pub loop-rec-init : goal.loop-rec-init

@@ -1,15 +1,13 @@
-use Rattle.std.proofs.Common.{refl, ◌≡◌, ◌<◌, ◌≤◌, ◌-◌, ◌+◌, ◌++◌, ◌∷◌, [], List, ℕ, Bool, ◌∙◌, ap, sym, subst, length, take, drop, length-append, arith}
+use Rattle.std.proofs.Common.{refl, ◌≡◌, ◌-◌, ◌++◌, ◌∷◌, [], ℕ, ◌∙◌, ap, sym, subst, length, take, drop, length-append, arith}
 use Rattle.std.proofs.lemmas.List.{length-drop}
-use Rattle.std.specs.Prelude.{IsTrue}
 use Rattle.disk_model.proofs.Moments.{begun}
 use Rattle.disk_model.specs.Disk.{LeavesOnly}
-use Rattle.xt_journal.specs.Access as access
 use Rattle.xt_journal.specs.Append.{IsRunOf, IsWithAllOrNone}
 use Rattle.xt_journal.specs.Reading.{placed_from}
 use Rattle.xt_journal.proofs.Steps.{rests_with_all}
 use Rattle.journal_records.specs.Calls.{GoesOn}
 use Rattle.object_store.specs.Access.{records_of}
-use Rattle.object_store.specs.Logs.{bare_in, places_in}
+use Rattle.object_store.specs.Logs.{places_in}
 use Rattle.object_store.specs.Places.{places_of}
 use Rattle.object_store.specs.Texts.{texts_of}
 use Rattle.object_store.specs.Waits.{recs_of}
