@@ -195,7 +195,7 @@ module _ {D : Type 0} {g : Ghosts D} (store : Store D g) (recs : List Record) wh
     room = omega (arith, room, needed_after-push (place_of (journal_of store)) recs rec);
   }
 
--- ---- what comes of adding a record
+-- ---- how adding a record ends
 
 -- whatever that is, what waits is as it should be
 pub are_after : {D T : Type 0} {g : Ghosts D} (store : Store D g) (rec : Record) (old bytes : List ℕ) (log new : StoreLog) (result : Result T StageErr) → AreWaiting old log

@@ -56,7 +56,7 @@ pub record PutsTo {D : Type 0} {g : Ghosts D} (old : Store D g) (recs : List Rec
 
 -- ---- several records at once
 
--- what comes of it
+-- how it ends
 abbrev pub PutAllEnds : {D : Type 0} {g : Ghosts D} → Store D g → List Record → Result (Store D g) (PutAllErr D) → Type 0
 PutAllEnds old recs (Ok new) = ArePut old recs new
 PutAllEnds old recs (Err (put.Broken count disk)) = AreBroken old recs count disk

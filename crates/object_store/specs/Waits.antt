@@ -61,13 +61,13 @@ pub record IsStaged {D : Type 0} {g : Ghosts D} (store : Store D g) (old : Waiti
   pub room : end_with store (recs_of old) + (6 + length (record_text rec)) ≤ limit_of (journal_of store)
   pub can : CanBePut store (recs_of new)
 
--- The journal would need so many bytes, which is more than its limit, and reported.
+-- The journal would need this many bytes, which is more than its limit. Both are reported.
 pub record IsOverLimit {D : Type 0} {g : Ghosts D} (store : Store D g) (needed need limit : ℕ) : Type 0 where
   pub over : limit_of (journal_of store) < needed
   pub need_is : need ≡ counted needed
   pub limit_is : limit ≡ limit_of (journal_of store)
 
--- why a record isn't staged, for which the journal would need so many bytes
+-- why a record isn't staged, for which the journal would need this many bytes
 abbrev pub IsRefused : {D : Type 0} {g : Ghosts D} → Store D g → ℕ → StageErr → Type 0
 IsRefused store needed (Full need limit) = IsOverLimit store needed need limit
 IsRefused store needed OutOfMemory = Unit {0}
@@ -76,7 +76,7 @@ IsRefused store needed OutOfMemory = Unit {0}
 abbrev pub IsStill : Waiting → Waiting → Type 0
 IsStill old new = (recs_of new ≡ recs_of old) × (bytes_of new ≡ bytes_of old)
 
--- what comes of staging a record
+-- how staging a record ends
 abbrev pub Stages : {D T : Type 0} {g : Ghosts D} → Store D g → Waiting → Record → Waiting → Result T StageErr → Type 0
 Stages store old rec new (Ok done) = IsStaged store old rec new
 Stages store old rec new (Err (Full need limit)) =
