@@ -3,6 +3,7 @@ use Rattle.std.specs.Prelude.{ℕ, ◌≡◌, ◌≤◌, ◌<◌, ◌+◌, ◌-�
 use Rattle.std.specs.Option.{IfSome, option_map}
 use Rattle.disk_model.specs.Disk.{Kept, IsImage}
 use Rattle.xt_base.specs.declared.ids.Boot.{Boot}
+use Rattle.xt_base.specs.Faults.{Rose}
 use Rattle.xt_messages.specs.declared.record.KeepBody.{KeepBody}
 use Rattle.xt_messages.specs.declared.record.Record.{Record}
 use Rattle.xt_messages.specs.declared.status.Status.{Status}
@@ -13,7 +14,7 @@ use Rattle.node_links.specs.declared.link.Datagram.{Datagram}
 use Rattle.node_links.specs.Streams.{Takes}
 use Rattle.node_runs.specs.Links.{Sends, Reads}
 use Rattle.node_runs.specs.Runs.{Role, JournalAt, Turn, Served, Begins, Rewrites, needed_in, event_in, ends_event, datagrams_in, readings_in}
-use Rattle.node_runs.specs.Serving.{IsIn, record_in, front_in, IsBetween, MayTurn, IsOver}
+use Rattle.node_runs.specs.Serving.{IsIn, record_in, front_in, IsBetween, MayTurn, IsOver, HasServeCause}
 use Rattle.node_runs.specs.Keeping.{StandsForOne, KeepsOn, KeptInTurn}
 use Rattle.node_runs.specs.Batches.{IsBatch, Goes}
 
@@ -171,6 +172,19 @@ module _ {S : Type 0} (told : Bool) (role : Role S) (boot : Boot) (period : ℕ)
     -- no message goes out before the records of its step and of all steps before it are kept
     pub sends : Sends sent_before sent_after losses_before losses_after (posts ++ left.more)
     pub ending : EndsBatches limit (length turns) to_come end left said
+
+-- the counts of faults of the link and the clock stay, or one of them rose
+abbrev pub RoseOnce : ℕ → ℕ → ℕ → ℕ → Type 0
+RoseOnce link_before link_after clock_before clock_after =
+    ((link_after ≡ link_before) × (clock_after ≡ clock_before))
+    ⊎ ((Rose link_before link_after × (clock_after ≡ clock_before)) ⊎ (Rose clock_before clock_after × (link_after ≡ link_before)))
+
+-- They rose exactly where the status reports it; but where the link or the clock failed, and then the disk or memory as the records that
+-- waited were put, it reports that.
+abbrev pub HasBatchCause : ℕ → ℕ → ℕ → ℕ → Status → Type 0
+HasBatchCause link_before link_after clock_before clock_after (status.DiskFault count) = RoseOnce link_before link_after clock_before clock_after
+HasBatchCause link_before link_after clock_before clock_after status.OutOfMemory = RoseOnce link_before link_after clock_before clock_after
+HasBatchCause link_before link_after clock_before clock_after said = HasServeCause link_before link_after clock_before clock_after said
 
 -- while that is done, a crash leaves the records as they were, or as they are once it is done
 abbrev pub KeepsDoing : {D : Type 0} → Bool → (D → ℕ) → (D → ℕ → List ℕ → Type 0) → D → D → List Record → Doing → Type 0
