@@ -1,12 +1,11 @@
 -- what a served node has handled that its disk and its link don't have yet
-use Rattle.std.specs.Prelude.{ℕ, ◌≡◌, ◌+◌, ◌⊎◌, Bool, Option, List, [], ◌++◌}
+use Rattle.std.specs.Prelude.{ℕ, ◌≡◌, ◌⊎◌, Bool, Option, List, [], ◌++◌}
 use Rattle.std.specs.Option.{option_map}
 use Rattle.disk_model.specs.declared.disk.Disk.{Ghosts}
 use Rattle.xt_messages.specs.declared.record.Record.{Record}
 use Rattle.replica_records.specs.Known.{as_known, known_of}
 use Rattle.object_store.specs.declared.store.Store.{Store}
-use Rattle.object_store.specs.Access.{records_of}
-use Rattle.object_store.specs.Waits.{recs_of, length_of}
+use Rattle.object_store.specs.Waits.{recs_of, records_with, end_with}
 use Rattle.node_links.specs.declared.link.Datagram.{Datagram}
 use Rattle.node_mail.specs.Posts.{datagrams_of_all}
 use Rattle.node_mail.specs.declared.posting.Post.{Post}
@@ -32,18 +31,14 @@ posts_of batch = datagrams_of_all batch.posts.items
 abbrev pub puts_of : Bool → Batch → List Record
 puts_of told batch = known_of told (recs_of batch.records)
 
--- a journal, once records of this length are put
-abbrev pub journal_after : JournalAt → ℕ → JournalAt
-journal_after journal added = record journal { end = journal.end + added }
-
 module _ {D : Type 0} {g : Ghosts D} where
   -- the records of a node: those on its disk, and those that wait
   abbrev pub kept_of : Store D g → Batch → List Record
-  kept_of store batch = records_of store ++ puts_of g.is_told batch
+  kept_of store batch = records_with store (recs_of batch.records)
 
   -- its journal, once the records that wait are put
   abbrev pub journal_then : Store D g → Batch → JournalAt
-  journal_then store batch = journal_after (journal_at store) (length_of batch.records)
+  journal_then store batch = record (journal_at store) { end = end_with store (recs_of batch.records) }
 
   -- the node as the loop holds it, with its records in this store and in this batch
   abbrev pub held_of : {N S : Type 0} → (N → S) → Site N → Store D g → Batch → Held S

@@ -15,7 +15,7 @@ use Rattle.node_runs.specs.Runs.{Role, Served, JournalAt, Turn, Passes, Rewrites
 use Rattle.node_runs.specs.Serving.{IsIn, record_in, front_in}
 use Rattle.node_runs.specs.Keeping.{KeepsOn, KeepsNow}
 use Rattle.node_runs.specs.Batches.{HasRoom}
-use Rattle.node_runs.specs.BatchEnds.{Doing, nothing, putting, has_put, Unfinished, all_done, done_by, FitsIn, puts_in, Stops, EndsBatches, KeepsDoing, LeavesDoing}
+use Rattle.node_runs.specs.BatchEnds.{Doing, putting, refused, has_put, Unfinished, all_done, done_by, FitsIn, puts_in, Stops, EndsBatches, KeepsDoing, LeavesDoing}
 use Rattle.node_loop.specs.declared.event.Stop.{Stop}
 use Rattle.node_loop.specs.declared.event.Stop.TheVariants as stop
 use Rattle.node_loop.specs.declared.turn.Next.{Next}
@@ -97,7 +97,7 @@ pub record Looks (own : List Msg) (woken : Bool) (puts : List Record) (posts : L
 -- Why the records that wait aren't put, and what was being done to the disk: it failed as they were put, or memory ran out before that.
 abbrev pub EndsCommit : (Doing → Type 0) → List Record → Status → Type 0
 EndsCommit leaves puts (status.DiskFault count) = leaves (putting puts)
-EndsCommit leaves puts status.OutOfMemory = leaves nothing
+EndsCommit leaves puts status.OutOfMemory = leaves (refused puts)
 EndsCommit leaves puts _ = ⊥
 
 -- A look at the records after a Wake: they stay, or they are rewritten.
@@ -112,7 +112,13 @@ pub record Changes {D : Type 0} (told : Bool) (moment : D → ℕ) (left_since :
   pub on : KeepsOn told moment left_since before after (records ∷ next ∷ [])
   pub now : IsTrue told → KeepsNow moment left_since after next
 
-module _ {D : Type 0} (told : Bool) (moment : D → ℕ) (left_since : D → ℕ → List ℕ → Type 0) (before after : D) (records : List Record) where
+-- From one disk to another this is done to these records: a crash leaves them or what they are once it is done; and in the end one of those lists
+-- that it leaves.
+abbrev pub IsDoing : {D : Type 0} → Bool → (D → Kept) → (D → ℕ) → (D → ℕ → List ℕ → Type 0) → D → D → List Record → Doing → Type 0
+IsDoing told kept moment left_since before after records doing =
+    KeepsDoing told moment left_since before after records doing × LeavesDoing told kept after records doing
+
+module _ {D : Type 0} (told : Bool) (kept : D → Kept) (moment : D → ℕ) (left_since : D → ℕ → List ℕ → Type 0) (before after : D) (records : List Record) where
   -- A node ended for this reason, on a disk that kept these records, and counts this many faults in the end: the records that waited were put
   -- before that, and the datagrams that waited were sent; or that failed, and nothing was sent.
   pub data HasFinished (puts : List Record) (posts : List Datagram) (sent_before sent_after : Option (List Datagram)) (losses_before losses_after count : ℕ) (why : Stop)
@@ -123,7 +129,7 @@ module _ {D : Type 0} (told : Bool) (moment : D → ℕ) (left_since : D → ℕ
         → Sends sent_before sent_after losses_before losses_after posts
         → HasFinished puts posts sent_before sent_after losses_before losses_after count why (status_of count why)
     none_put : (said : Status) → puts ≢ [] → Sends sent_before sent_after losses_before losses_after []
-        → EndsCommit (KeepsDoing told moment left_since before after records) puts said
+        → EndsCommit (IsDoing told kept moment left_since before after records) puts said
         → HasFinished puts posts sent_before sent_after losses_before losses_after count why said
 
 module _ {D S : Type 0} (told : Bool) (role : Role S) (boot : Boot) (period : ℕ) (kept : D → Kept) (moment : D → ℕ) (left_since : D → ℕ → List ℕ → Type 0)
@@ -132,7 +138,7 @@ module _ {D S : Type 0} (told : Bool) (role : Role S) (boot : Boot) (period : �
   -- The loop went on: by a pass; by a commit of what waited; or, where nothing waits, by a look at the records after a Wake.
   pub data Advances (new : Held S) (next : List Record) (now_spent : ℕ) : Type 0 where
     by_pass : HasPassed told role boot period old new spent now_spent given_before given_after sent_before sent_after losses_before losses_after unread read
-        → next ≡ records → after ≡ before → Advances new next now_spent
+        → new.now.journal.superblock ≡ old.now.journal.superblock → next ≡ records → after ≡ before → Advances new next now_spent
     by_commit : new ≡ record { now = old.now; puts = []; posts = [] } → Changes told moment left_since before after records next → now_spent ≡ spent
         → given_after ≡ given_before → read ≡ unread → Sends sent_before sent_after losses_before losses_after old.posts → Advances new next now_spent
     by_look : old.puts ≡ [] → old.posts ≡ [] → new.puts ≡ [] → new.posts ≡ [] → Settles told role boot period old.now new.now
@@ -145,16 +151,16 @@ module _ {D S : Type 0} (told : Bool) (role : Role S) (boot : Boot) (period : �
         → Takes given_before given_after (datagrams_in left.turns ++ left.unread) → Reads unread read (readings_in left.turns)
         → Sends sent_before sent_after losses_before losses_after (old.posts ++ left.more)
         → EndsBatches told role boot period limit spent given_before old.now left said
-        → KeepsDoing told moment left_since between after old.now.kept left.doing → LeavesDoing told kept after old.now.kept left.doing
+        → IsDoing told kept moment left_since between after old.now.kept left.doing
         → HasEnded limit said
     not_put : (said : Status) (turns : List Turn) (unheard : List Datagram) (puts : List Record)
         → Stops told role boot period limit spent given_before old.now turns unheard puts
         → Takes given_before given_after (datagrams_in turns ++ unheard) → Reads unread read (readings_in turns)
         → Sends sent_before sent_after losses_before losses_after []
-        → EndsCommit (KeepsDoing told moment left_since before after records) (old.puts ++ puts) said
+        → EndsCommit (IsDoing told kept moment left_since before after records) (old.puts ++ puts) said
         → HasEnded limit said
     after_put : (it : IsIn told role boot period given_before old.now) (count : ℕ) → FitsIn it.met.journal (record_in told role boot period given_before old.now it)
         → Takes given_before given_after (datagrams_in it.turn ++ []) → Reads unread read (readings_in it.turn)
         → Sends sent_before sent_after losses_before losses_after (old.posts ++ front_in told role boot period given_before old.now it count)
-        → Changes told moment left_since before after records (records ++ (old.puts ++ puts_in told role boot period given_before old.now it))
+        → IsDoing told kept moment left_since before after records (has_put (old.puts ++ puts_in told role boot period given_before old.now it))
         → HasEnded limit status.OutOfMemory

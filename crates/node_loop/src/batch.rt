@@ -4,14 +4,13 @@ ghost use Rattle.std.specs.Option.{IfSome};
 ghost use Rattle.xt_messages.specs.Limits.{FitsRecord};
 ghost use Rattle.xt_protocol.specs.Folds.{fold_of, IsInPlace};
 ghost use Rattle.object_store.specs.Access.{records_of, disk_of};
-ghost use Rattle.object_store.specs.Waits.{recs_of, length_of, MayPut};
-ghost use Rattle.node_runs.specs.BatchEnds.{KeepsDoing};
+ghost use Rattle.object_store.specs.Waits.{CanBePut, end_with, recs_of, records_with};
 ghost use Rattle.node_runs.specs.Links.{Sends};
 ghost use Rattle.node_runs.specs.Runs.{grown, needed_in};
 ghost use Rattle.replica_records.specs.Known.{known_of};
-ghost use Rattle.node_loop.specs.Batched.{HasStaged, journal_after, journal_then, kept_of, posts_of, puts_of};
+ghost use Rattle.node_loop.specs.Batched.{HasStaged, journal_then, kept_of, posts_of, puts_of};
 ghost use Rattle.node_loop.specs.Events.{EndsStage, HasDiskCause};
-ghost use Rattle.node_loop.specs.Passing.{Changes, EndsCommit, HasFinished, IsReason, status_of};
+ghost use Rattle.node_loop.specs.Passing.{Changes, EndsCommit, HasFinished, IsDoing, IsReason, status_of};
 ghost use Rattle.node_loop.specs.declared.event.Stop.TheVariants as stop;
 ghost use Rattle.xt_messages.specs.declared.status.Status.{Status};
 ghost use Rattle.node_loop.specs.Stores.{journal_at};
@@ -22,6 +21,7 @@ use node_links::Link;
 use node_mail::{Post, release_all};
 use object_store::{PutAllErr, StageErr, Store, Waiting};
 use std::alloc::Global;
+use std::mem;
 use xt_base::OptionalBox;
 use xt_messages::{Record, Status};
 use xt_parts::PartBuffer;
@@ -84,9 +84,9 @@ impl Batch {
         store: &Store<D>,
         rec: &OptionalBox<Record>,
     ) -> Result<(), Stop>
-        requires may { MayPut store.now self.old.records }
+        requires may { CanBePut store.now (recs_of self.old.records) }
         requires fits { IfSome rec.now (λ rec. FitsRecord rec × IsInPlace (fold_of (kept_of store.now self.old)) rec) }
-        ensures may { MayPut store.now self.new.records }
+        ensures may { CanBePut store.now (recs_of self.new.records) }
         ensures posts { self.new.posts ≡ self.old.posts }
         ensures staged { OnOk result (HasStaged D.is_told (journal_then store.now self.old)
             (puts_of D.is_told self.old) (puts_of D.is_told self.new) rec.now) }
@@ -101,7 +101,10 @@ impl Batch {
         };
         match self.records.stage(alloc, store, rec) {
             Ok(()) => Ok(()),
-            Err(StageErr::Full { need, limit }) => Err(Stop::With(Status::JournalFull { need, limit })),
+            Err(StageErr::Full { need, limit }) => Err(Stop::With(Status::JournalFull {
+                need,
+                limit,
+            })),
             Err(StageErr::OutOfMemory) => Err(Stop::With(Status::OutOfMemory)),
         }
     }
@@ -115,7 +118,7 @@ impl Batch {
         link: &mut L,
         store: Store<D>,
     ) -> Result<Store<D>, Ended<D>>
-        requires may { MayPut store self.old.records }
+        requires may { CanBePut store (recs_of self.old.records) }
         ensures given { L.given link.new ≡ L.given link.old }
         ensures faults { L.fault_count link.new ≡ L.fault_count link.old }
         ensures records { IfOk result (λ kept. records_of kept ≡ kept_of store self.old) }
@@ -129,7 +132,7 @@ impl Batch {
             × (L.loss_count link.new ≡ L.loss_count link.old)) }
         ensures some { OnErr result (puts_of D.is_told self.old ≢ []) }
         ensures ends { IfErr result (λ ended. EndsCommit
-            (KeepsDoing D.is_told D.moment D.left_since (disk_of store) ended.disk (records_of store))
+            (IsDoing D.is_told D.kept D.moment D.left_since (disk_of store) ended.disk (records_of store))
             (puts_of D.is_told self.old) ended.status) }
         ensures disk { IfOk result (λ kept. D.fault_count (disk_of kept) ≡ D.fault_count (disk_of store)) }
         ensures disk_cause { IfErr result (λ ended. HasDiskCause (D.fault_count (disk_of store))
@@ -151,11 +154,11 @@ impl Batch {
         store: Store<D>,
         why: Stop,
     ) -> Ended<D>
-        requires may { MayPut store self.old.records }
+        requires may { CanBePut store (recs_of self.old.records) }
         requires known { IsReason why }
         ensures given { L.given link.new ≡ L.given link.old }
         ensures faults { L.fault_count link.new ≡ L.fault_count link.old }
-        ensures finished { HasFinished D.is_told D.moment D.left_since (disk_of store) result.disk (records_of store)
+        ensures finished { HasFinished D.is_told D.kept D.moment D.left_since (disk_of store) result.disk (records_of store)
             (puts_of D.is_told self.old) (posts_of self.old)
             (L.sent link.old) (L.sent link.new) (L.loss_count link.old) (L.loss_count link.new)
             (D.fault_count result.disk) why result.status }
@@ -193,15 +196,15 @@ fn commit<D: Disk>(
     records: &mut Waiting,
     store: Store<D>,
 ) -> Result<Store<D>, Ended<D>>
-    requires may { MayPut store records.old }
-    ensures kept { IfOk result (λ kept. records_of kept ≡ records_of store ++ known_of D.is_told (recs_of records.old)) }
-    ensures journal { IfOk result (λ kept. journal_at kept ≡ journal_after (journal_at store) (length_of records.old)) }
+    requires may { CanBePut store (recs_of records.old) }
+    ensures kept { IfOk result (λ kept. records_of kept ≡ records_with store (recs_of records.old)) }
+    ensures journal { IfOk result (λ kept. journal_at kept ≡ record (journal_at store) { end = end_with store (recs_of records.old) }) }
     ensures empty { OnOk result (recs_of records.new ≡ []) }
     ensures changes { IfOk result (λ kept. Changes D.is_told D.moment D.left_since
         (disk_of store) (disk_of kept) (records_of store) (records_of kept)) }
     ensures some { OnErr result (known_of D.is_told (recs_of records.old) ≢ []) }
     ensures ends { IfErr result (λ ended. EndsCommit
-        (KeepsDoing D.is_told D.moment D.left_since (disk_of store) ended.disk (records_of store))
+        (IsDoing D.is_told D.kept D.moment D.left_since (disk_of store) ended.disk (records_of store))
         (known_of D.is_told (recs_of records.old)) ended.status) }
     ensures disk { IfOk result (λ kept. D.fault_count (disk_of kept) ≡ D.fault_count (disk_of store)) }
     ensures disk_cause { IfErr result (λ ended. HasDiskCause (D.fault_count (disk_of store))
@@ -210,11 +213,9 @@ fn commit<D: Disk>(
     if records.is_empty() {
         return Ok(store);
     }
-    match store.put_all(alloc, records) {
-        Ok(store) => {
-            records.clear();
-            Ok(store)
-        }
+    let waited = mem::replace(records, Waiting::new(alloc));
+    match store.put_all(alloc, waited) {
+        Ok(store) => Ok(store),
         Err(PutAllErr::Broken { count, disk }) => Err(Ended {
             status: Status::DiskFault { count },
             disk,

@@ -2,9 +2,9 @@ ghost use Rattle.std.specs.Prelude.{◌≡◌, ◌<◌, ◌^◌, ◌++◌, ◌�
 ghost use Rattle.std.specs.Option.{option_map};
 ghost use Rattle.xt_messages.specs.Limits.{FitsEvent};
 ghost use Rattle.xt_messages.specs.declared.status.Status.TheVariants as status;
-ghost use Rattle.replica_records.specs.Known.{as_known, known_of};
+ghost use Rattle.replica_records.specs.Known.{as_known};
 ghost use Rattle.object_store.specs.Access.{records_of, disk_of};
-ghost use Rattle.object_store.specs.Waits.{recs_of};
+ghost use Rattle.object_store.specs.Waits.{recs_of, records_with};
 ghost use Rattle.node_loop.specs.Events.{Fits, HasDiskCause, Seeing};
 ghost use Rattle.node_loop.specs.Passing.{Changes};
 ghost use Rattle.node_loop.specs.declared.event.Stop.TheVariants as stop;
@@ -12,7 +12,7 @@ ghost use Rattle.world_spec.specs.NodeSteps.{one_more};
 
 use crate::node::Node;
 use disk_model::Disk;
-use object_store::{Reader, Store, Waiting};
+use object_store::{Layered, Reader, Store, Waiting};
 use object_versions::StepErr;
 use std::alloc::Global;
 use xt_messages::{Event, Status};
@@ -59,17 +59,17 @@ pub fn step_on<N: Node, D: Disk>(
 ) -> Result<Turned, Stop>
     requires clock { now < 2 ^ 62 }
     requires event { FitsEvent ev.now }
-    requires runs { N.runs_on node.old (records_of store.now ++ known_of D.is_told (recs_of waiting.now)) }
-    ensures step { IfOk result (λ turned. Seeing D.is_told (records_of store.now ++ known_of D.is_told (recs_of waiting.now)) (λ seen.
+    requires runs { N.runs_on node.old (records_with store.now (recs_of waiting.now)) }
+    ensures step { IfOk result (λ turned. Seeing D.is_told (records_with store.now (recs_of waiting.now)) (λ seen.
         (N.role node.old).step seen (N.state node.old) now ev.now ≡
         record { state = N.state node.new; turned = turned })) }
-    ensures fits { IfOk result (λ turned. Fits (records_of store.now ++ known_of D.is_told (recs_of waiting.now)) turned) }
+    ensures fits { IfOk result (λ turned. Fits (records_with store.now (recs_of waiting.now)) turned) }
     ensures runs { IfOk result (λ turned. N.runs_on node.new
-        (one_more (records_of store.now ++ known_of D.is_told (recs_of waiting.now)) (option_map (as_known D.is_told) turned.rec))) }
+        (one_more (records_with store.now (recs_of waiting.now)) (option_map (as_known D.is_told) turned.rec))) }
     ensures role { IfOk result (λ turned. N.role node.new ≡ N.role node.old) }
     ensures ends { IfErr result (λ why. (why ≡ stop.Unread) ⊎ (why ≡ stop.With status.OutOfMemory)) }
 {
-    let mut bodies = Reader::new(alloc, store, waiting);
+    let mut bodies = Layered::new(Reader::new(alloc, store), waiting);
     match node.step(alloc, &mut bodies, now, ev) {
         Ok(turned) => Ok(turned),
         Err(StepErr::OutOfMemory) => Err(Stop::With(Status::OutOfMemory)),

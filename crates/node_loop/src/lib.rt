@@ -12,8 +12,8 @@ mod serving;
 mod site;
 mod turn;
 
-pub use compacting::{Rewritten, is_due, rewrite};
 pub use batch::Batch;
+pub use compacting::{Rewritten, is_due, rewrite};
 pub use event::{Ended, Stop};
 pub use laws::no_older_records_come_back;
 pub use node::Node;

@@ -2,7 +2,7 @@ ghost use Rattle.std.specs.Prelude.{◌≡◌, ◌≤◌, ◌<◌, ◌^◌, ◌+
 ghost use Rattle.std.specs.List.{All};
 ghost use Rattle.xt_messages.specs.Limits.{FitsMessage};
 ghost use Rattle.object_store.specs.Access.{records_of, disk_of};
-ghost use Rattle.object_store.specs.Waits.{MayPut};
+ghost use Rattle.object_store.specs.Waits.{CanBePut, recs_of};
 ghost use Rattle.node_runs.specs.Batches.{kept_at};
 ghost use Rattle.node_runs.specs.BatchEnds.{HasBatchCause, IsServedInBatches, KeepsBatches};
 ghost use Rattle.node_runs.specs.Serving.{HasServeCause};
@@ -42,7 +42,7 @@ impl<N: Node> Site<N> {
         requires own { All FitsMessage self.old.own }
         requires spent { spent.old ≤ bounds.turns }
         requires runs { N.runs_on self.old.node (kept_of store.now batch.old) }
-        requires may { MayPut store.now batch.old.records }
+        requires may { CanBePut store.now (recs_of batch.old.records) }
         ensures long { length buf.new ≡ length buf.old }
         ensures same { IfOk result (λ next. (self.new.sender.node ≡ self.old.sender.node)
             × (self.new.sender.boot ≡ self.old.sender.boot)
@@ -50,7 +50,7 @@ impl<N: Node> Site<N> {
         ensures clocks { IfOk result (λ next. (self.new.clock < 2 ^ 62) × (spent.new ≤ bounds.turns)) }
         ensures own { IfOk result (λ next. All FitsMessage self.new.own) }
         ensures runs { IfOk result (λ next. N.runs_on self.new.node (kept_of store.now batch.new)) }
-        ensures may { MayPut store.now batch.new.records }
+        ensures may { CanBePut store.now (recs_of batch.new.records) }
         ensures faults { IfOk result (λ next. (L.fault_count link.new ≡ L.fault_count link.old)
             × (C.fault_count clock.new ≡ C.fault_count clock.old)) }
         ensures went { IfOk result (λ next. WentOn
@@ -115,7 +115,7 @@ impl<N: Node> Site<N> {
         requires own { All FitsMessage self.old.own }
         requires spent { spent.old ≤ bounds.turns }
         requires runs { N.runs_on self.old.node (kept_of store batch.old) }
-        requires may { MayPut store batch.old.records }
+        requires may { CanBePut store (recs_of batch.old.records) }
         ensures long { length buf.new ≡ length buf.old }
         ensures same { IfOk result (λ kept. (self.new.sender.node ≡ self.old.sender.node)
             × (self.new.sender.boot ≡ self.old.sender.boot)
@@ -123,7 +123,7 @@ impl<N: Node> Site<N> {
         ensures clocks { IfOk result (λ kept. (self.new.clock < 2 ^ 62) × (spent.new ≤ bounds.turns)) }
         ensures own { IfOk result (λ kept. All FitsMessage self.new.own) }
         ensures runs { IfOk result (λ kept. N.runs_on self.new.node (kept_of kept batch.new)) }
-        ensures may { IfOk result (λ kept. MayPut kept batch.new.records) }
+        ensures may { IfOk result (λ kept. CanBePut kept (recs_of batch.new.records)) }
         ensures faults { IfOk result (λ kept. (L.fault_count link.new ≡ L.fault_count link.old)
             × (C.fault_count clock.new ≡ C.fault_count clock.old)) }
         ensures advanced { IfOk result (λ kept. Advances D.is_told (N.role self.old.node) self.old.sender.boot bounds.period
@@ -199,7 +199,9 @@ pub fn serve<N: Node, L: Link, C: Clock, D: Disk>(
     let mut store = store;
     let mut spent = 0;
     for _ in 0..u64::MAX {
-        match site.advance(alloc, link, clock, store, &mut batch, bounds, &mut spent, buf) {
+        match site.advance(
+            alloc, link, clock, store, &mut batch, bounds, &mut spent, buf,
+        ) {
             Ok(kept) => store = kept,
             Err(Ended { status, disk }) => return (status, disk),
         }

@@ -6,7 +6,7 @@ ghost use Rattle.xt_protocol.specs.Forgetting.{rewritten};
 ghost use Rattle.object_store.specs.Access.{records_of};
 ghost use Rattle.object_store.specs.Texts.{AreRecords};
 ghost use Rattle.node_loop.specs.Stores.{journal_at};
-ghost use Rattle.object_store.specs.Waits.{MayPut};
+ghost use Rattle.object_store.specs.Waits.{CanBePut, recs_of};
 ghost use Rattle.node_runs.specs.Runs.{meets, event_in, ends_event, next_due, is_due, area_at};
 ghost use Rattle.node_loop.specs.Batched.{HasMailed, HasStaged, held_of, journal_then, kept_of, posts_of, puts_of};
 ghost use Rattle.node_loop.specs.Events.{EndsEvent, Seeing};
@@ -124,7 +124,7 @@ impl<N: Node> Site<N> {
         requires home { self.old.sender.node ≡ (N.role self.old.node).node }
         requires runs { N.runs_on self.old.node (kept_of store.now batch.old) }
         requires own { All FitsMessage self.old.own }
-        requires may { MayPut store.now batch.old.records }
+        requires may { CanBePut store.now (recs_of batch.old.records) }
         ensures given { L.given link.new ≡ L.given link.old }
         ensures faults { L.fault_count link.new ≡ L.fault_count link.old }
         ensures same { (self.new.sender.node ≡ self.old.sender.node)
@@ -134,7 +134,7 @@ impl<N: Node> Site<N> {
         ensures role { OnOk result (N.role self.new.node ≡ N.role self.old.node) }
         ensures runs { OnOk result (N.runs_on self.new.node (kept_of store.now batch.new)) }
         ensures own { OnOk result (All FitsMessage self.new.own) }
-        ensures may { MayPut store.now batch.new.records }
+        ensures may { CanBePut store.now (recs_of batch.new.records) }
         ensures acted { OnOk result (HasActed D.is_told (N.role self.old.node) self.old.sender.boot
             (held_of N.state self.old store.now batch.old).now happens.now (held_of N.state self.new store.now batch.new).now
             (HasMailed (puts_of D.is_told batch.new) (posts_of batch.old) (posts_of batch.new)

@@ -1,7 +1,7 @@
 ghost use Rattle.std.specs.Prelude.{◌≡◌, ◌≤◌, ◌<◌, ◌^◌, ◌+◌, [], false, true, length, IfOk, IfErr};
 ghost use Rattle.std.specs.List.{All};
 ghost use Rattle.xt_messages.specs.Limits.{FitsMessage};
-ghost use Rattle.object_store.specs.Waits.{MayPut};
+ghost use Rattle.object_store.specs.Waits.{CanBePut, recs_of};
 ghost use Rattle.node_runs.specs.Serving.{HasServeCause};
 ghost use Rattle.node_loop.specs.Batched.{held_of, kept_of, posts_of, puts_of};
 ghost use Rattle.node_loop.specs.Passing.{HasPassed, HasStopped, IsIdle, WentOn, status_of};
@@ -55,7 +55,7 @@ impl<N: Node> Site<N> {
         requires between { (self.old.own ≡ []) × (self.old.woken ≡ false) }
         requires more { spent.old < bounds.turns }
         requires runs { N.runs_on self.old.node (kept_of store.now batch.old) }
-        requires may { MayPut store.now batch.old.records }
+        requires may { CanBePut store.now (recs_of batch.old.records) }
         ensures long { length buf.new ≡ length buf.old }
         ensures same { IfOk result (λ next. (self.new.sender.node ≡ self.old.sender.node)
             × (self.new.sender.boot ≡ self.old.sender.boot)
@@ -63,7 +63,7 @@ impl<N: Node> Site<N> {
         ensures clocks { IfOk result (λ next. (self.new.clock < 2 ^ 62) × (spent.new ≤ bounds.turns)) }
         ensures own { IfOk result (λ next. All FitsMessage self.new.own) }
         ensures runs { IfOk result (λ next. N.runs_on self.new.node (kept_of store.now batch.new)) }
-        ensures may { MayPut store.now batch.new.records }
+        ensures may { CanBePut store.now (recs_of batch.new.records) }
         ensures faults { IfOk result (λ next. (L.fault_count link.new ≡ L.fault_count link.old)
             × (C.fault_count clock.new ≡ C.fault_count clock.old)) }
         ensures went { IfOk result (λ next. WentOn

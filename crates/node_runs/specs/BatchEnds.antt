@@ -24,15 +24,18 @@ pub data Doing : Type 0 where
   nothing : Doing
   -- these were being put after them, all at once: all of them are there, or none is
   putting : List Record → Doing
+  -- These were to be put after them; memory ran out before that, and nothing was done: they are as they were.
+  refused : List Record → Doing
   -- these were put after them, and all of them are there
   has_put : List Record → Doing
   -- they were being rewritten with these bodies: they are, or they are as they were
   rewriting : List KeepBody → Doing
 
--- the records once that is done
+-- the records once that were done
 abbrev pub done_by : List Record → Doing → List Record
 done_by kept nothing = kept
 done_by kept (putting puts) = kept ++ puts
+done_by kept (refused puts) = kept ++ puts
 done_by kept (has_put puts) = kept ++ puts
 done_by kept (rewriting keep) = rewritten keep kept
 
@@ -40,6 +43,7 @@ done_by kept (rewriting keep) = rewritten keep kept
 abbrev pub left_by : List Record → Doing → List (List Record)
 left_by kept nothing = kept ∷ []
 left_by kept (putting puts) = kept ∷ (kept ++ puts) ∷ []
+left_by kept (refused puts) = kept ∷ []
 left_by kept (has_put puts) = (kept ++ puts) ∷ []
 left_by kept (rewriting keep) = kept ∷ rewritten keep kept ∷ []
 
@@ -91,7 +95,7 @@ module _ {S : Type 0} (told : Bool) (role : Role S) (boot : Boot) (period : ℕ)
     in_event : (it : IsIn told role boot period to_come s) → FitsIn it.met.journal (record_in told role boot period to_come s it)
         → Stops limit spent to_come s it.turn [] (puts_in to_come s it)
 
-  -- The node was in a batch, and stopped after it. The records of both weren't put: this was done to the disk for it. Nothing was posted.
+  -- The node was in a batch, and stopped after it. The records of both weren't put: `done` says of them what was done. Nothing was posted.
   pub record IsNotPut (limit spent : ℕ) (to_come : Option (List Datagram)) (s : Served S) (left : Unfinished) (done : List Record → Doing) : Type 0 where
     pub within : IsInBatch to_come s
     pub turns : List Turn
@@ -152,7 +156,7 @@ module _ {S : Type 0} (told : Bool) (role : Role S) (boot : Boot) (period : ℕ)
   -- of an event were encoded, whose record was put; or as the records were rewritten.
   EndsBatches limit spent to_come s left status.OutOfMemory =
       RunsOutBefore limit spent to_come s left
-      ⊎ (IsNotPut limit spent to_come s left (λ puts. nothing) ⊎ (RunsOutAfterPut to_come s left ⊎ FailsToRewrite s left))
+      ⊎ (IsNotPut limit spent to_come s left refused ⊎ (RunsOutAfterPut to_come s left ⊎ FailsToRewrite s left))
   EndsBatches limit spent to_come s left _ = ⊥
 
   -- A served node: the turns that it took, what was received, read and posted, and why it ended. It began at a reading of the clock.
