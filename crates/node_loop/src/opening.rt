@@ -2,6 +2,7 @@ ghost use Rattle.std.specs.Prelude.{◌≡◌, ◌≤◌, ◌<◌, ◌^◌, ◌�
 ghost use Rattle.xt_base.specs.Faults.{Rose};
 ghost use Rattle.node_runs.specs.Links.{Reads};
 ghost use Rattle.node_runs.specs.Serving.{HasServeCause};
+ghost use Rattle.std.specs.Option.{IfSome, IfNone};
 ghost use Rattle.node_loop.specs.Turns.{Opened, HasBegun, CannotBegin, IsWithin, turn_of};
 
 use node_links::{Clock, Got, Link};
@@ -85,5 +86,81 @@ pub fn begin<L: Link, C: Clock>(
         Err(_) => Err(Status::ClockFault {
             count: clock.faults(),
         }),
+    }
+}
+
+/// Begins a turn with a datagram that is there already, and reads the clock after it; None where no datagram is there, or no time is left to
+/// the next Wake. That begins no turn.
+fn probe<L: Link, C: Clock>(
+    link: &mut L,
+    clock: &mut C,
+    left: u64,
+    buf: &mut [u8],
+) -> Result<Option<(Opening, u64)>, Status>
+    requires room { 65536 ≤ length buf.old }
+    ensures long { length buf.new ≡ length buf.old }
+    ensures sent { (L.sent link.new ≡ L.sent link.old)
+        × (L.loss_count link.new ≡ L.loss_count link.old) }
+    ensures begun { IfOk result (λ begun. IfSome begun (λ begun. HasBegun left (L.given link.old) (L.given link.new)
+        (C.readings clock.old) (C.readings clock.new) (turn_of buf.new begun.0 begun.1))) }
+    ensures nothing { IfOk result (λ begun. IfNone begun ((L.given link.new ≡ L.given link.old)
+        × (C.readings clock.new ≡ C.readings clock.old))) }
+    ensures within { IfOk result (λ begun. IfSome begun (λ begun. IsWithin buf.new begun.0 × (begun.1 < 2 ^ 62))) }
+    ensures faults { IfOk result (λ begun. (L.fault_count link.new ≡ L.fault_count link.old)
+        × (C.fault_count clock.new ≡ C.fault_count clock.old)) }
+    ensures cannot { IfErr result (CannotBegin left (L.given link.old) (L.given link.new)
+        (C.readings clock.old) (C.readings clock.new)) }
+    ensures cause { IfErr result (HasServeCause (L.fault_count link.old) (L.fault_count link.new)
+        (C.fault_count clock.old) (C.fault_count clock.new)) }
+{
+    if left == 0 {
+        return Ok(None);
+    }
+    let Ok(got) = link.receive(0, buf) else {
+        return Err(Status::LinkFault {
+            count: link.faults(),
+        });
+    };
+    let Got::Piece { from, len } = got else {
+        return Ok(None);
+    };
+    match read(clock) {
+        Ok(reading) => Ok(Some((Opening::Piece { from, len }, reading))),
+        Err(_) => Err(Status::ClockFault {
+            count: clock.faults(),
+        }),
+    }
+}
+
+/// Begins the next turn: with a datagram that is there already, where something waits to be put; else as `begin` does. None where no turn began.
+pub fn begin_next<L: Link, C: Clock>(
+    link: &mut L,
+    clock: &mut C,
+    left: u64,
+    waits: bool,
+    buf: &mut [u8],
+) -> Result<Option<(Opening, u64)>, Status>
+    requires room { 65536 ≤ length buf.old }
+    ensures long { length buf.new ≡ length buf.old }
+    ensures sent { (L.sent link.new ≡ L.sent link.old)
+        × (L.loss_count link.new ≡ L.loss_count link.old) }
+    ensures begun { IfOk result (λ begun. IfSome begun (λ begun. HasBegun left (L.given link.old) (L.given link.new)
+        (C.readings clock.old) (C.readings clock.new) (turn_of buf.new begun.0 begun.1))) }
+    ensures nothing { IfOk result (λ begun. IfNone begun ((L.given link.new ≡ L.given link.old)
+        × (C.readings clock.new ≡ C.readings clock.old))) }
+    ensures within { IfOk result (λ begun. IfSome begun (λ begun. IsWithin buf.new begun.0 × (begun.1 < 2 ^ 62))) }
+    ensures faults { IfOk result (λ begun. (L.fault_count link.new ≡ L.fault_count link.old)
+        × (C.fault_count clock.new ≡ C.fault_count clock.old)) }
+    ensures cannot { IfErr result (CannotBegin left (L.given link.old) (L.given link.new)
+        (C.readings clock.old) (C.readings clock.new)) }
+    ensures cause { IfErr result (HasServeCause (L.fault_count link.old) (L.fault_count link.new)
+        (C.fault_count clock.old) (C.fault_count clock.new)) }
+{
+    if waits {
+        return probe(link, clock, left, buf);
+    }
+    match begin(link, clock, left, buf) {
+        Ok(begun) => Ok(Some(begun)),
+        Err(status) => Err(status),
     }
 }
