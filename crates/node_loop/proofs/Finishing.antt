@@ -13,9 +13,9 @@ use Rattle.node_links.specs.declared.link.Datagram.{Datagram}
 use Rattle.node_links.specs.Streams.{Takes}
 use Rattle.node_runs.specs.Links.{Sends, Reads}
 use Rattle.node_runs.specs.Runs.{Role, Served, Turn, datagrams_in, readings_in}
-use Rattle.node_runs.specs.Serving.{IsIn, record_in, front_in}
+use Rattle.node_runs.specs.Serving.{IsIn, record_in, front_in, HasServeCause}
 use Rattle.node_runs.specs.Keeping.{StandsForOne, KeepsOn, KeepsNow}
-use Rattle.node_runs.specs.BatchEnds.{Doing, nothing, putting, refused, has_put, rewriting, all_done, done_by, FitsIn, puts_in, Stops, between, in_event, EndsBatches, KeepsDoing, LeavesDoing}
+use Rattle.node_runs.specs.BatchEnds.{Doing, nothing, putting, refused, has_put, rewriting, all_done, done_by, FitsIn, puts_in, Stops, between, in_event, EndsBatches, KeepsDoing, LeavesDoing, HasBatchCause, RoseOnce}
 use Rattle.node_runs.proofs.Sending.{sends_none, sends_join, takes_none, reads_none}
 use Rattle.node_loop.specs.declared.event.Stop.{Stop}
 use Rattle.node_loop.specs.declared.event.Stop.TheVariants as stop
@@ -199,3 +199,40 @@ gives_up told role boot period limit spent old given sent losses read = record {
     ends = λ count. inl ([], tt, refl);
   });
 }
+
+-- ---- the causes of an end
+
+pub cause_from : (l0 l1 l2 c0 c1 c2 : ℕ) (said : Status) → l1 ≡ l0 → c1 ≡ c0 → HasBatchCause l1 l2 c1 c2 said → HasBatchCause l0 l2 c0 c2 said
+cause_from l0 l1 l2 c0 c1 c2 said e f is = subst (λ n. HasBatchCause n l2 c0 c2 said) e (subst (λ n. HasBatchCause l1 l2 n c2 said) f is)
+
+-- where a node stopped with a cause, one of the counts rose, or none
+rose_once : (link link_after clock clock_after : ℕ) (said : Status) → HasServeCause link link_after clock clock_after said → RoseOnce link link_after clock clock_after
+rose_once link link_after clock clock_after (status.LinkFault count) is = inr (inl (is.0, is.2))
+rose_once link link_after clock clock_after (status.ClockFault count) is = inr (inr (is.0, is.2))
+rose_once link link_after clock clock_after _ is = inl is
+
+batch_cause : (link link_after clock clock_after : ℕ) (said : Status) → HasServeCause link link_after clock clock_after said → HasBatchCause link link_after clock clock_after said
+batch_cause link link_after clock clock_after (status.DiskFault count) is = inl is
+batch_cause link link_after clock clock_after status.OutOfMemory is = inl is
+batch_cause link link_after clock clock_after _ is = is
+
+stop_cause : (link link_after clock clock_after count : ℕ) (why : Stop) → HasServeCause link link_after clock clock_after (status_of 0 why) → HasBatchCause link link_after clock clock_after (status_of count why)
+stop_cause link link_after clock clock_after count stop.Unread is = inl is
+stop_cause link link_after clock clock_after count (stop.With said) is = batch_cause link link_after clock clock_after said is
+
+pub finished_cause : {D : Type 0} (told : Bool) (kept : D → Kept) (moment : D → ℕ) (left_since : D → ℕ → List ℕ → Type 0) (before after : D) (records puts : List Record)
+    (posts : List Datagram) (sent_before sent_after : Option (List Datagram)) (losses_before losses_after count : ℕ) (why : Stop) (said : Status) (link link_then link_after clock clock_after : ℕ)
+    → HasFinished told kept moment left_since before after records puts posts sent_before sent_after losses_before losses_after count why said
+    → link_after ≡ link_then → HasServeCause link link_then clock clock_after (status_of 0 why) → HasBatchCause link link_after clock clock_after said
+finished_cause told kept moment left_since before after records puts posts sent_before sent_after losses_before losses_after count why said link link_then link_after clock clock_after is same cause =
+    subst (λ n. HasBatchCause link n clock clock_after said) (sym same) (by_case said is)
+  where
+    by_commit : (said : Status) → EndsCommit (IsDoing told kept moment left_since before after records) puts said → HasBatchCause link link_then clock clock_after said
+    by_commit (status.DiskFault n) does = rose_once link link_then clock clock_after (status_of 0 why) cause
+    by_commit status.OutOfMemory does = rose_once link link_then clock clock_after (status_of 0 why) cause
+    by_commit _ does = absurd does
+
+    by_case : (said : Status) → HasFinished told kept moment left_since before after records puts posts sent_before sent_after losses_before losses_after count why said
+        → HasBatchCause link link_then clock clock_after said
+    by_case said (all_put between' first then closed sends) = stop_cause link link_then clock clock_after count why cause
+    by_case said (none_put _ some quiet does) = by_commit said does

@@ -89,10 +89,10 @@ WentOn passed idle looks next.Commit = idle
 WentOn passed idle looks next.Look = looks
 
 -- The node may look at its records: a Wake and all messages of the node to itself are handled, and nothing waits.
-pub record Looks (own : List Msg) (woken : Bool) (puts : List Record) (posts : List Datagram) : Type 0 where
+pub record Looks (own : List Msg) (woken : Bool) (waiting : List Record) (posts : List Datagram) : Type 0 where
   pub handled : own ≡ []
   pub after_wake : woken ≡ true
-  pub nothing_waits : (puts ≡ []) × (posts ≡ [])
+  pub nothing_waits : (waiting ≡ []) × (posts ≡ [])
 
 -- Why the records that wait aren't put, and what was being done to the disk: it failed as they were put, or memory ran out before that.
 abbrev pub EndsCommit : (Doing → Type 0) → List Record → Status → Type 0

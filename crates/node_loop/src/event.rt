@@ -26,7 +26,7 @@ pub struct Ended<D: Disk> {
 }
 
 /// Why a node is to end. What waits is put and sent before it does.
-#[derive(Clone, Copy)]
+#[derive(Drop)]
 pub enum Stop {
     /// With this status.
     With(Status),
@@ -69,7 +69,8 @@ pub fn step_on<N: Node, D: Disk>(
     ensures role { IfOk result (λ turned. N.role node.new ≡ N.role node.old) }
     ensures ends { IfErr result (λ why. (why ≡ stop.Unread) ⊎ (why ≡ stop.With status.OutOfMemory)) }
 {
-    let mut bodies = Layered::new(Reader::new(alloc, store), waiting);
+    let lower = Reader::new(alloc, store);
+    let mut bodies = Layered::new(lower, waiting);
     match node.step(alloc, &mut bodies, now, ev) {
         Ok(turned) => Ok(turned),
         Err(StepErr::OutOfMemory) => Err(Stop::With(Status::OutOfMemory)),

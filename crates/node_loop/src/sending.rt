@@ -94,7 +94,8 @@ fn pack_one(
         None => Ok(()),
         Some(address) => {
             let post = sender.pack(alloc, &address, msg)?;
-            posts.push(post)
+            posts.push(post)?;
+            Ok(())
         }
     }
 }

@@ -63,7 +63,7 @@ impl<N: Node> Site<N> {
             (L.loss_count link.old) (L.loss_count link.new) (C.readings clock.old) (C.readings clock.new))
             (IsIdle (held_of N.state self.old store.now batch.old) (held_of N.state self.new store.now batch.new) spent.old spent.new
             (L.given link.old) (L.given link.new) (L.sent link.old) (L.sent link.new)
-            (L.loss_count link.old) (L.loss_count link.new) (C.readings clock.old) (C.readings clock.new) × Looks self.new.own self.new.woken (puts_of D.is_told batch.new) (posts_of batch.new))
+            (L.loss_count link.old) (L.loss_count link.new) (C.readings clock.old) (C.readings clock.new) × Looks self.new.own self.new.woken (recs_of batch.new.records) (posts_of batch.new))
             next) }
         ensures stopped { IfErr result (HasStopped D.is_told (N.role self.old.node) self.old.sender.boot
             bounds.period bounds.turns spent.old (held_of N.state self.old store.now batch.old) (puts_of D.is_told batch.new) (posts_of batch.new)

@@ -9,7 +9,7 @@ ghost use Rattle.node_loop.specs.Passing.{HasPassed, HasStopped, IsIdle, WentOn,
 use crate::batch::Batch;
 use crate::event::Stop;
 use crate::node::Node;
-use crate::opening::begin_next;
+use crate::opening::begin;
 use crate::site::Site;
 use disk_model::Disk;
 use node_links::{Clock, Link};
@@ -85,7 +85,7 @@ impl<N: Node> Site<N> {
     {
         let left = self.due.saturating_sub(self.clock);
         let waits = !batch.is_empty();
-        let (opening, reading) = match begin_next(link, clock, left, waits, buf) {
+        let (opening, reading) = match begin(link, clock, left, waits, buf) {
             Ok(Some(begun)) => begun,
             Ok(None) => return Ok(Next::Commit),
             Err(status) => return Err(Stop::With(status)),
