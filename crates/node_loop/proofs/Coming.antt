@@ -1,5 +1,5 @@
 -- the passes of a served node one after the other, in batches, and what its disk keeps
-use Rattle.std.proofs.Common.{ℕ, ◌≡◌, ◌≤◌, ◌+◌, refl, sym, ◌∙◌, ap, subst, Bool, Option, None, Some, List, [], ◌∷◌, ◌++◌, length, inl, inr, arith}
+use Rattle.std.proofs.Common.{ℕ, ◌≡◌, ◌≤◌, ◌+◌, refl, sym, ◌∙◌, ap, subst, Bool, false, Option, None, Some, List, [], ◌∷◌, ◌++◌, length, inl, inr, arith}
 use Rattle.std.proofs.lemmas.List.{length-append, append_assoc, append-nil}
 use Rattle.std.specs.Prelude.{IsTrue}
 use Rattle.disk_model.specs.Disk.{Kept, IsImage, LeavesOnly}
@@ -106,13 +106,13 @@ module _ {S D : Type 0} (told : Bool) (role : Role S) (boot : Boot) (period : �
     reads = reads_none unread;
     sends = sends_none sent_before losses_before;
     spends = refl;
-    in_turn = λ told. from_start (subst (λ (rs : List Record). KeepsNow moment left_since first rs) (sym same) (here told));
+    in_turn = λ known. from_start (subst (λ (rs : List Record). KeepsNow moment left_since first rs) (sym same) (here known));
   })
 
   module _ (cur : Held S) (records : List Record) (disk : D) (spent : ℕ) (given sent : Option (List Datagram)) (losses : ℕ) (read : Option (List ℕ))
       (come : HasCome cur records disk spent given sent losses read) (held : IsHeld cur records) where
     -- the batch that it is in
-    this_batch : IsBatch told role boot period come.left come.base given come.more cur.posts cur.now
+    abbrev this_batch : IsBatch told role boot period come.left come.base given come.more cur.posts cur.now
     this_batch = record {
       comes = come.comes;
       puts = cur.puts;
@@ -121,19 +121,19 @@ module _ {S D : Type 0} (told : Bool) (role : Role S) (boot : Boot) (period : �
       same_area = come.same_area;
     }
 
-    goes_now : Goes told role boot period given_before start given (come.turns ++ come.more) (come.posts ++ cur.posts) cur.now
+    abbrev goes_now : Goes told role boot period given_before start given (come.turns ++ come.more) (come.posts ++ cur.posts) cur.now
     goes_now = then_batch come.left given come.turns come.more come.posts cur.posts come.base cur.now come.goes this_batch
 
     -- what its disk has kept in turn once the batch is put
     kept_now : (after : D) (next : List Record) → cur.now.kept ≡ next → Changes told moment left_since disk after records next
         → IsTrue told → KeptInTurn moment left_since first start.kept
         (kept_at told role boot period given_before start come.left come.turns come.posts come.base come.goes ++ cur.now.kept ∷ []) cur.now.kept after
-    kept_now after next same changes told =
+    kept_now after next same changes known =
         let leaves : LeavesOnly moment left_since disk after (StandsForOne (come.base.kept ∷ cur.now.kept ∷ [])) =
         subst (λ (rs : List Record). LeavesOnly moment left_since disk after (StandsForOne (rs ∷ cur.now.kept ∷ []))) (sym come.base_kept)
-        (subst (λ (rs : List Record). LeavesOnly moment left_since disk after (StandsForOne (records ∷ rs ∷ []))) (sym same) (changes.on told)) in
+        (subst (λ (rs : List Record). LeavesOnly moment left_since disk after (StandsForOne (records ∷ rs ∷ []))) (sym same) (changes.on known)) in
         then_next (kept_at told role boot period given_before start come.left come.turns come.posts come.base come.goes) come.base.kept cur.now.kept disk after
-        (come.in_turn told) leaves (subst (λ (rs : List Record). KeepsNow moment left_since after rs) (sym same) (changes.now told))
+        (come.in_turn known) leaves (subst (λ (rs : List Record). KeepsNow moment left_since after rs) (sym same) (changes.now known))
 
     -- the batch was put and sent
     committed : (after : D) (next : List Record) (sent_after : Option (List Datagram)) (losses_after : ℕ) → cur.now.kept ≡ next → Changes told moment left_since disk after records next
@@ -229,8 +229,8 @@ module _ {S D : Type 0} (told : Bool) (role : Role S) (boot : Boot) (period : �
             reads = reads_on;
             sends = sends_join sent_before sent sent_after losses_before losses losses_after come.posts (cur.posts ++ one.mailed) come.sends all_sent;
             spends = spends_on;
-            in_turn = λ told. kept_again moment left_since first disk start.kept come.base.kept new.now.kept
-                (kept_at told role boot period given_before start come.left come.turns come.posts come.base come.goes) (same ∙ sym come.base_kept) (come.in_turn told);
+            in_turn = λ known. kept_again moment left_since first disk start.kept come.base.kept new.now.kept
+                (kept_at told role boot period given_before start come.left come.turns come.posts come.base come.goes) (same ∙ sym come.base_kept) (come.in_turn known);
           }
 
       passes_on : HasMailed new.puts cur.posts new.posts sent sent_after losses losses_after one.mailed
@@ -249,20 +249,17 @@ module _ {S D : Type 0} (told : Bool) (role : Role S) (boot : Boot) (period : �
       sends_still = sends_join sent_before sent sent_after losses_before losses losses_after come.posts cur.posts come.sends
           (subst (Sends sent sent_after losses losses_after) (sym unsent) quiet)
 
-      lists_now : List (List Record)
-      lists_now = kept_at told role boot period given_before start come.left come.turns come.posts come.base come.goes ++ cur.now.kept ∷ []
-
       then_changed : (then : List Record) → then ≡ next → IsTrue told
           → KeptInTurn moment left_since first start.kept
           ((kept_at told role boot period given_before start come.left come.turns come.posts come.base come.goes ++ cur.now.kept ∷ []) ++ then ∷ []) then after
-      then_changed then same told =
+      then_changed then same known =
           let leaves : LeavesOnly moment left_since disk after (StandsForOne (cur.now.kept ∷ then ∷ [])) =
           subst (λ (rs : List Record). LeavesOnly moment left_since disk after (StandsForOne (rs ∷ then ∷ []))) (sym same_records)
-          (subst (λ (rs : List Record). LeavesOnly moment left_since disk after (StandsForOne (records ∷ rs ∷ []))) (sym same) (changes.on told)) in
+          (subst (λ (rs : List Record). LeavesOnly moment left_since disk after (StandsForOne (records ∷ rs ∷ []))) (sym same) (changes.on known)) in
           then_next (kept_at told role boot period given_before start come.left come.turns come.posts come.base come.goes ++ cur.now.kept ∷ []) cur.now.kept then disk after
           (kept_again moment left_since first disk start.kept come.base.kept cur.now.kept
-          (kept_at told role boot period given_before start come.left come.turns come.posts come.base come.goes) (same_records ∙ sym come.base_kept) (come.in_turn told))
-          leaves (subst (λ (rs : List Record). KeepsNow moment left_since after rs) (sym same) (changes.now told))
+          (kept_at told role boot period given_before start come.left come.turns come.posts come.base come.goes) (same_records ∙ sym come.base_kept) (come.in_turn known))
+          leaves (subst (λ (rs : List Record). KeepsNow moment left_since after rs) (sym same) (changes.now known))
 
       settles_to : (s : Served S) → Settles told role boot period cur.now s → s.kept ≡ next
           → HasCome (record { now = s; puts = []; posts = [] }) next after spent given sent_after losses_after read
@@ -444,7 +441,7 @@ module _ {S D : Type 0} (told : Bool) (role : Role S) (boot : Boot) (period : �
         put_ends it count fits received reads sends does =
             stopped status.OutOfMemory it.turn [] (cur.posts ++ front_in told role boot period given cur.now it count)
             (has_put (cur.puts ++ puts_in told role boot period given cur.now it)) received reads sends
-            (inr (inr (inl (record { after = given; turns = come.more; posts = cur.posts; next = cur.now; batch = this_batch }, it, fits, (count, refl))))) does
+            (inr (inr (inl (record { after = given; turns = come.more; posts = cur.posts; next = cur.now; batch = this_batch }, (it, fits, (count, refl)))))) does
 
         ends_ours : (said : Status)
             → HasEnded told role boot period kept moment left_since cur records disk after spent given given_after sent sent_after losses losses_after read read_after limit said

@@ -1,5 +1,5 @@
 -- how a node ends, once what waits is put and sent, or that failed
-use Rattle.std.proofs.Common.{ℕ, ◌≡◌, ◌≢◌, ◌≤◌, ◌⊎◌, refl, sym, ◌∙◌, ap, subst, Bool, Option, None, Some, List, [], ◌∷◌, ◌++◌, length, inl, inr, ⊎_elim}
+use Rattle.std.proofs.Common.{ℕ, ◌≡◌, ◌≢◌, ◌≤◌, ◌⊎◌, refl, sym, ◌∙◌, ap, subst, Bool, Option, None, Some, List, [], ◌∷◌, ◌++◌, length, inl, inr, arith}
 use Rattle.std.proofs.lemmas.List.{append-nil}
 use Rattle.std.specs.Prelude.{IsTrue}
 use Rattle.disk_model.specs.Disk.{Kept, IsImage, LeavesOnly}
@@ -90,12 +90,6 @@ module _ {D : Type 0} (told : Bool) (kept : D → Kept) (moment : D → ℕ) (le
             (subst (λ (rs : List Record). EndsCommit (IsDoing told kept moment left_since before after records) rs said) (w.same_puts ∙ sym (append-nil old.puts)) does)
 
         module _ (w : WaitsWithRecord told role boot period limit spent old puts posts given given' sent sent_between losses losses_between unread read why turns unheard) where
-          its : List Record
-          its = puts_in told role boot period given old.now w.it
-
-          front : List Datagram
-          front = front_in told role boot period given old.now w.it w.count
-
           received_in : Takes given given' (datagrams_in w.it.turn ++ [])
           received_in = subst (λ (ts : List Turn). Takes given given' (datagrams_in ts ++ [])) w.turns_are
               (subst (λ (ds : List Datagram). Takes given given' (datagrams_in turns ++ ds)) w.unheard_is received)

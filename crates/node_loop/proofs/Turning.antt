@@ -18,7 +18,7 @@ use Rattle.node_runs.specs.Links.{Sends, Reads}
 use Rattle.node_runs.specs.Runs.{Role, Served, Turn, woke, idle, came, Begins, Passes, by_turn, by_own, in_turn, of_itself, meets, event_in, ends_event, posts_in, mails_in, goes_through, mails, step_at, datagrams_in, readings_in}
 use Rattle.node_runs.specs.Serving.{IsBetween, IsIn, MayTurn}
 use Rattle.node_runs.specs.BatchEnds.{BeginsOne, Stops, between, unclocked}
-use Rattle.node_runs.specs.BatchEnds as ends
+use Rattle.node_runs.specs.BatchEnds as served
 use Rattle.node_runs.proofs.Sending.{sends_none, takes_none, reads_none}
 use Rattle.node_loop.specs.declared.event.Stop.{Stop}
 use Rattle.node_loop.specs.declared.event.Stop.TheVariants as stop
@@ -55,8 +55,6 @@ mails_nothing puts waited wait sent_before sent_after losses_before losses_after
 
 module _ {S : Type 0} (told : Bool) (role : Role S) (boot : Boot) (period limit spent : ℕ) (old : Held S)
     (before after sent_before sent_after : Option (List Datagram)) (losses_before losses_after : ℕ) (unread read : Option (List ℕ)) where
-  abbrev StopsWith : List Record → List Datagram → Stop → Type 0
-  StopsWith puts posts why = HasStopped told role boot period limit spent old puts posts before after sent_before sent_after losses_before losses_after unread read why
 
   -- a turn that could not be begun
   pub has_not_begun : (puts : List Record) (posts : List Datagram) (left : ℕ) (said : Status) → puts ≡ old.puts → posts ≡ old.posts → left ≡ old.now.due - old.now.clock
@@ -117,7 +115,7 @@ module _ {S : Type 0} (told : Bool) (role : Role S) (boot : Boot) (period limit 
         same_puts = p;
         same_posts = q;
         quiet = quiet;
-        stops = ends.in_turn turn may begins_now;
+        stops = served.in_turn turn may begins_now;
         ends = λ n. inl (turn ∷ [], (may, begins_now), refl);
       });
     }
@@ -135,7 +133,7 @@ module _ {S : Type 0} (told : Bool) (role : Role S) (boot : Boot) (period limit 
         same_puts = p;
         same_posts = q;
         quiet = quiet;
-        stops = ends.in_turn turn may begins_now;
+        stops = served.in_turn turn may begins_now;
         ends = λ n. (may, (turn, begins_now, refl, ap (ends_event role boot period) (sym is) ∙ ended));
       });
     }
@@ -163,7 +161,7 @@ module _ {S : Type 0} (told : Bool) (role : Role S) (boot : Boot) (period limit 
     as_it_was : (it : IsIn told role boot period before old.now) (why : Stop) → HasMailed puts old.posts posts sent_before sent_after losses_before losses_after []
         → HasStaged told it.met.journal old.puts puts None
         → Stops told role boot period limit spent before old.now it.turn [] []
-        → ((count : ℕ) → ends.EndsBatches told role boot period limit spent before old.now (record ends.all_done { turns = it.turn }) (status_of count why))
+        → ((count : ℕ) → served.EndsBatches told role boot period limit spent before old.now (record served.all_done { turns = it.turn }) (status_of count why))
         → WaitsAsBefore told role boot period limit spent old puts posts before after sent_before sent_after losses_before losses_after unread read why it.turn []
     as_it_was it why none staged stops all =
         let quiet = mailed_none puts old.posts posts sent_before sent_after losses_before losses_after none in
@@ -241,7 +239,7 @@ module _ {S : Type 0} (told : Bool) (role : Role S) (boot : Boot) (period limit 
           seen = seen;
           sees = sees;
         } in
-        has_failed it why (may, begins) (ends.in_turn turn may begins) (subst (Takes before after) (sym (append-nil (datagrams_in (turn ∷ [])))) begun.received) begun.reads failed
+        has_failed it why (may, begins) (served.in_turn turn may begins) (subst (Takes before after) (sym (append-nil (datagrams_in (turn ∷ [])))) begun.received) begun.reads failed
 
     -- a message of the node to itself that ends it
     pub has_told_failed : (msg : Msg) (rest : List Msg) → old.now.own ≡ msg ∷ rest → after ≡ before → read ≡ unread → (why : Stop) (seen : List Record) → Sees told old.now.kept seen
