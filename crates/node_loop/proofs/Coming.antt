@@ -1,5 +1,5 @@
 -- the passes of a served node one after the other, in batches, and what its disk keeps
-use Rattle.std.proofs.Common.{ℕ, ◌≡◌, ◌≤◌, ◌+◌, refl, sym, ◌∙◌, ap, subst, Bool, false, Option, None, Some, List, [], ◌∷◌, ◌++◌, length, inl, inr, arith}
+use Rattle.std.proofs.Common.{ℕ, ◌≡◌, ◌≢◌, ◌≤◌, ◌+◌, refl, sym, ◌∙◌, ap, subst, Bool, false, Option, None, Some, List, [], ◌∷◌, ◌++◌, length, inl, inr, arith}
 use Rattle.std.proofs.lemmas.List.{length-append, append_assoc, append-nil}
 use Rattle.std.specs.Prelude.{IsTrue}
 use Rattle.disk_model.specs.Disk.{Kept, IsImage, LeavesOnly}
@@ -386,10 +386,10 @@ module _ {S D : Type 0} (told : Bool) (role : Role S) (boot : Boot) (period : �
 
         -- the batch that it was in, and where it stopped after it
         left_out : (turns : List Turn) (unheard : List Datagram) (puts : List Record) (done : List Record → Doing)
-            → Stops told role boot period limit spent given cur.now turns unheard puts
+            → Stops told role boot period limit spent given cur.now turns unheard puts → cur.puts ++ puts ≢ []
             → IsNotPut told role boot period limit (length come.turns) come.left come.base
             (record { turns = come.more ++ turns; unread = unheard; doing = done (cur.puts ++ puts); more = [] }) done
-        left_out turns unheard puts done stops =
+        left_out turns unheard puts done stops some =
             let reached : spent ≡ length come.turns + length come.more = spent_is ∙ length-append come.turns come.more in
             record {
               within = record { after = given; turns = come.more; posts = cur.posts; next = cur.now; batch = this_batch };
@@ -397,18 +397,19 @@ module _ {S D : Type 0} (told : Bool) (role : Role S) (boot : Boot) (period : �
               unread = unheard;
               puts = puts;
               stops = subst (λ n. Stops told role boot period limit n given cur.now turns unheard puts) reached stops;
+              some = some;
               is = refl;
             }
 
         not_put_ends : (said : Status) (turns : List Turn) (unheard : List Datagram) (puts : List Record)
             → Stops told role boot period limit spent given cur.now turns unheard puts
             → Takes given given_after (datagrams_in turns ++ unheard) → Reads read read_after (readings_in turns) → Sends sent sent_after losses losses_after []
-            → EndsCommit (IsDoing told kept moment left_since disk after records) (cur.puts ++ puts) said → IsServedOn said
-        not_put_ends (status.DiskFault count) turns unheard puts stops received reads sends does =
-            stopped (status.DiskFault count) turns unheard [] (putting (cur.puts ++ puts)) received reads sends (inl (left_out turns unheard puts putting stops)) does
-        not_put_ends status.OutOfMemory turns unheard puts stops received reads sends does =
-            stopped status.OutOfMemory turns unheard [] (refused (cur.puts ++ puts)) received reads sends (inr (inl (left_out turns unheard puts refused stops))) does
-        not_put_ends _ turns unheard puts stops received reads sends does = absurd does
+            → cur.puts ++ puts ≢ [] → EndsCommit (IsDoing told kept moment left_since disk after records) (cur.puts ++ puts) said → IsServedOn said
+        not_put_ends (status.DiskFault count) turns unheard puts stops received reads sends some does =
+            stopped (status.DiskFault count) turns unheard [] (putting (cur.puts ++ puts)) received reads sends (inl (left_out turns unheard puts putting stops some)) does
+        not_put_ends status.OutOfMemory turns unheard puts stops received reads sends some does =
+            stopped status.OutOfMemory turns unheard [] (refused (cur.puts ++ puts)) received reads sends (inr (inl (left_out turns unheard puts refused stops some))) does
+        not_put_ends _ turns unheard puts stops received reads sends some does = absurd does
 
         committed_ends : (said : Status) (left : Unfinished) (between : D) → Changes told moment left_since disk between records cur.now.kept
             → Takes given given_after (datagrams_in left.turns ++ left.unread) → Reads read read_after (readings_in left.turns)
@@ -447,7 +448,7 @@ module _ {S D : Type 0} (told : Bool) (role : Role S) (boot : Boot) (period : �
             → HasEnded told role boot period kept moment left_since cur records disk after spent given given_after sent sent_after losses losses_after read read_after limit said
             → IsServedOn said
         ends_ours said (after_commit _ left between changes received reads sends ends does) = committed_ends said left between changes received reads sends ends does
-        ends_ours said (not_put _ turns unheard puts stops received reads sends does) = not_put_ends said turns unheard puts stops received reads sends does
+        ends_ours said (not_put _ turns unheard puts stops received reads sends some does) = not_put_ends said turns unheard puts stops received reads sends some does
         ends_ours said (after_put it count fits received reads sends does) = put_ends it count fits received reads sends does
 
         pub is_served_on : (role' : Role S) (boot' : Boot) → role' ≡ role → boot' ≡ boot → (said : Status)

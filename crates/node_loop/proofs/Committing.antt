@@ -1,8 +1,8 @@
 -- the records that wait are put at once
-use Rattle.std.proofs.Common.{ℕ, ◌≡◌, ◌≢◌, ◌+◌, ◌≤◌, ◌⊎◌, refl, sym, ◌∙◌, ap, subst, Bool, true, false, Option, None, Some, List, [], ◌∷◌, ◌++◌, length, inl, inr, map, arith}
+use Rattle.std.proofs.Common.{ℕ, ◌≡◌, ◌≢◌, ◌≤◌, ◌⊎◌, refl, sym, ◌∙◌, ap, subst, Bool, true, false, Option, None, Some, List, [], ◌∷◌, ◌++◌, length, inl, inr, map, arith}
 use Rattle.std.specs.Prelude.{IsTrue, ◌==◌}
 use Rattle.std.proofs.lemmas.List.{map-append}
-use Rattle.std.proofs.lemmas.Bool.Decides.{nat_tests}
+use Rattle.std.proofs.lemmas.Bool.{eqb-true, eqb-false}
 use Rattle.disk_model.specs.Disk.{Kept, IsImage, LeavesOnly}
 use Rattle.xt_messages.specs.declared.record.Record.{Record}
 use Rattle.xt_messages.specs.declared.status.Status.{Status}
@@ -20,15 +20,14 @@ use Rattle.node_loop.specs.declared.event.Stop.TheVariants as stop
 use Rattle.node_loop.specs.Events.{HasDiskCause}
 use Rattle.node_loop.specs.Passing.{IsDoing, IsReason}
 
-not_none : (n : ℕ) → ((1 + n) == 0) ≡ true → ⊥
-not_none n e = grind (arith, nat_tests, e)
-
 pub none_of : {A : Type 0} (xs : List A) → (length xs == 0) ≡ true → xs ≡ []
 none_of [] e = refl
-none_of (x ∷ xs) e = absurd (not_none (length xs) e)
+none_of (x ∷ xs) e =
+    let none : length (x ∷ xs) ≡ 0 = eqb-true (length (x ∷ xs)) 0 e in
+    absurd (omega arith)
 
 pub some_known : (told : Bool) (recs : List Record) → (length recs == 0) ≡ false → known_of told recs ≢ []
-some_known told [] e = λ is. grind (arith, nat_tests, e)
+some_known told [] e = let other : length {A = Record} [] ≢ 0 = eqb-false _ _ e in λ is. other refl
 some_known told (rec ∷ recs) e = λ is. absurd is
 
 module _ {D : Type 0} (is_told : Bool) (kept : D → Kept) (moment : D → ℕ) (left_since : D → ℕ → List ℕ → Type 0) where

@@ -87,6 +87,7 @@ module _ {D : Type 0} (told : Bool) (kept : D → Kept) (moment : D → ℕ) (le
             (subst (λ (rs : List Record). IsDoing told kept moment left_since between' after rs nothing) all (does_nothing between' after (records ++ puts) then))
         as_before said w (none_put _ some quiet does) =
             not_put said turns unheard [] w.stops received reads (quiet_then sent sent_between sent_after losses losses_between losses_after [] w.quiet quiet)
+            (subst (λ (rs : List Record). rs ≢ []) (w.same_puts ∙ sym (append-nil old.puts)) some)
             (subst (λ (rs : List Record). EndsCommit (IsDoing told kept moment left_since before after records) rs said) (w.same_puts ∙ sym (append-nil old.puts)) does)
 
         module _ (w : WaitsWithRecord told role boot period limit spent old puts posts given given' sent sent_between losses losses_between unread read why turns unheard) where
@@ -129,6 +130,7 @@ module _ {D : Type 0} (told : Bool) (kept : D → Kept) (moment : D → ℕ) (le
           with_record said (none_put _ some quiet does) =
               not_put said w.it.turn [] (puts_in told role boot period given old.now w.it) (in_event w.it w.fits) received_in reads_in
               (quiet_all some quiet w.mails)
+              (subst (λ (rs : List Record). rs ≢ []) w.puts_are some)
               (subst (λ (rs : List Record). EndsCommit (IsDoing told kept moment left_since before after records) rs said) w.puts_are does)
 
       pub ended_by : (said : Status)

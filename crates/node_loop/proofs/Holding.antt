@@ -52,6 +52,13 @@ module _ {N S D : Type 0} {g : Ghosts D} (state : N → S) (site : Site N) (stor
       let now = now_alone none in
       λ i. record { now = now i; puts = known_of g.is_told (none i); posts = unsent i }
 
+-- no records more
+pub with_none : {D : Type 0} {g : Ghosts D} (store : Store D g) (recs : List Record) → recs ≡ [] → records_with store recs ≡ records_of store
+with_none store recs none = ap (λ (rs : List Record). records_with store rs) none ∙ append-nil (records_of store)
+
+pub ends_with_none : {D : Type 0} {g : Ghosts D} (store : Store D g) (recs : List Record) → recs ≡ [] → record (journal_at store) { end = end_with store recs } ≡ journal_at store
+ends_with_none store recs none = ap (λ (rs : List Record). record (journal_at store) { end = end_with store rs }) none
+
 -- none can be put
 pub none_can : {D : Type 0} {g : Ghosts D} (store : Store D g) (recs : List Record) → recs ≡ [] → CanBePut store recs
 none_can store recs none = subst (λ (rs : List Record). CanBePut store rs) (sym none) (record { placed = tt; room = omega arith })

@@ -55,7 +55,6 @@ mails_nothing puts waited wait sent_before sent_after losses_before losses_after
 
 module _ {S : Type 0} (told : Bool) (role : Role S) (boot : Boot) (period limit spent : ℕ) (old : Held S)
     (before after sent_before sent_after : Option (List Datagram)) (losses_before losses_after : ℕ) (unread read : Option (List ℕ)) where
-
   -- a turn that could not be begun
   pub has_not_begun : (puts : List Record) (posts : List Datagram) (left : ℕ) (said : Status) → puts ≡ old.puts → posts ≡ old.posts → left ≡ old.now.due - old.now.clock
       → IsBetween told role boot period old.now → spent < limit → Sends sent_before sent_after losses_before losses_after []

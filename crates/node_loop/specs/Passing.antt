@@ -156,7 +156,7 @@ module _ {D S : Type 0} (told : Bool) (role : Role S) (boot : Boot) (period : �
     not_put : (said : Status) (turns : List Turn) (unheard : List Datagram) (puts : List Record)
         → Stops told role boot period limit spent given_before old.now turns unheard puts
         → Takes given_before given_after (datagrams_in turns ++ unheard) → Reads unread read (readings_in turns)
-        → Sends sent_before sent_after losses_before losses_after []
+        → Sends sent_before sent_after losses_before losses_after [] → old.puts ++ puts ≢ []
         → EndsCommit (IsDoing told kept moment left_since before after records) (old.puts ++ puts) said
         → HasEnded limit said
     after_put : (it : IsIn told role boot period given_before old.now) (count : ℕ) → FitsIn it.met.journal (record_in told role boot period given_before old.now it)

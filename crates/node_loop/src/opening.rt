@@ -39,12 +39,20 @@ fn receive<L: Link>(
         × Rose (L.fault_count link.old) (L.fault_count link.new)) }
 {
     if left == 0 {
-        return Ok(if waits { None } else { Some(Opening::NoTimeLeft) });
+        return Ok(if waits {
+            None
+        } else {
+            Some(Opening::NoTimeLeft)
+        });
     }
     let most = if waits { 0 } else { left };
     match link.receive(most, buf)? {
         Got::Piece { from, len } => Ok(Some(Opening::Piece { from, len })),
-        Got::NothingYet => Ok(if waits { None } else { Some(Opening::NothingCame) }),
+        Got::NothingYet => Ok(if waits {
+            None
+        } else {
+            Some(Opening::NothingCame)
+        }),
     }
 }
 

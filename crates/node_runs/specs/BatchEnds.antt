@@ -1,5 +1,5 @@
 -- What serving a node in batches does to its link and its clock, and why it ends.
-use Rattle.std.specs.Prelude.{ℕ, ◌≡◌, ◌≤◌, ◌<◌, ◌+◌, ◌-◌, ◌⊎◌, Bool, true, IsTrue, Option, Some, None, List, [], ◌∷◌, ◌++◌, length}
+use Rattle.std.specs.Prelude.{ℕ, ◌≡◌, ◌≢◌, ◌≤◌, ◌<◌, ◌+◌, ◌-◌, ◌⊎◌, Bool, true, IsTrue, Option, Some, None, List, [], ◌∷◌, ◌++◌, length}
 use Rattle.std.specs.Option.{IfSome, option_map}
 use Rattle.disk_model.specs.Disk.{Kept, IsImage}
 use Rattle.xt_base.specs.declared.ids.Boot.{Boot}
@@ -95,13 +95,15 @@ module _ {S : Type 0} (told : Bool) (role : Role S) (boot : Boot) (period : ℕ)
     in_event : (it : IsIn told role boot period to_come s) → FitsIn it.met.journal (record_in told role boot period to_come s it)
         → Stops limit spent to_come s it.turn [] (puts_in to_come s it)
 
-  -- The node was in a batch, and stopped after it. The records of both weren't put: `done` says of them what was done. Nothing was posted.
+  -- The node was in a batch, and stopped after it. The records of both, of which there are some, weren't put: `done` says of them what was
+  -- done. Nothing was posted.
   pub record IsNotPut (limit spent : ℕ) (to_come : Option (List Datagram)) (s : Served S) (left : Unfinished) (done : List Record → Doing) : Type 0 where
     pub within : IsInBatch to_come s
     pub turns : List Turn
     pub unread : List Datagram
     pub puts : List Record
     pub stops : Stops limit (spent + length within.turns) within.after within.next turns unread puts
+    pub some : within.batch.puts ++ puts ≢ []
     pub is : left ≡ record { turns = within.turns ++ turns; unread = unread; doing = done (within.batch.puts ++ puts); more = [] }
 
   -- a body couldn't be read in an event, before which nothing waited: nothing of it was put or posted
