@@ -28,7 +28,7 @@ none_of (x ∷ xs) e =
 
 pub some_known : (told : Bool) (recs : List Record) → (length recs == 0) ≡ false → known_of told recs ≢ []
 some_known told [] e = let other : length {A = Record} [] ≢ 0 = eqb-false _ _ e in λ is. other refl
-some_known told (rec ∷ recs) e = λ is. absurd is
+some_known told (rec ∷ recs) e = λ is. let none : length (known_of told (rec ∷ recs)) ≡ 0 = ap length is in absurd (omega arith)
 
 module _ {D : Type 0} (is_told : Bool) (kept : D → Kept) (moment : D → ℕ) (left_since : D → ℕ → List ℕ → Type 0) where
   -- Records were put at once, or a put of them failed.

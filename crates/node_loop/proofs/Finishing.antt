@@ -17,6 +17,7 @@ use Rattle.node_runs.specs.Serving.{IsIn, record_in, front_in, HasServeCause}
 use Rattle.node_runs.specs.Keeping.{StandsForOne, KeepsOn, KeepsNow}
 use Rattle.node_runs.specs.BatchEnds.{Doing, nothing, putting, refused, has_put, rewriting, all_done, done_by, FitsIn, puts_in, Stops, between, in_event, EndsBatches, KeepsDoing, LeavesDoing, HasBatchCause, RoseOnce}
 use Rattle.node_runs.proofs.Sending.{sends_none, sends_join, takes_none, reads_none}
+use Rattle.node_loop.proofs.Turning.{sends_same}
 use Rattle.node_loop.specs.declared.event.Stop.{Stop}
 use Rattle.node_loop.specs.declared.event.Stop.TheVariants as stop
 use Rattle.node_loop.specs.Batched.{Held, HasMailed}
@@ -145,6 +146,14 @@ module _ {D : Type 0} (told : Bool) (kept : D → Kept) (moment : D → ℕ) (le
           by_how (inl w) = as_before is.turns is.unheard is.received is.reads said w finished
           by_how (inr w) = with_record is.turns is.unheard is.received is.reads w said finished
 
+      pub ended_then : (given_after : Option (List Datagram)) (said : Status) → given_after ≡ given'
+          → HasStopped told role boot period limit spent old puts posts given given' sent sent_between losses losses_between unread read why
+          → HasFinished told kept moment left_since before after records puts posts sent_between sent_after losses_between losses_after count why said
+          → HasEnded told role boot period kept moment left_since old records before after spent given given_after sent sent_after losses losses_after unread read limit said
+      ended_then given_after said e is finished =
+          subst (λ o. HasEnded told role boot period kept moment left_since old records before after spent given o sent sent_after losses losses_after unread read limit said) (sym e)
+          (ended_by said is finished)
+
     -- a look at the records ends the node
     pub look_ends : (given given' sent sent_after : Option (List Datagram)) (losses losses_after : ℕ) (unread read : Option (List ℕ)) (s : Served S) (said : Status)
         → s ≡ old.now → old.puts ≡ [] → old.posts ≡ [] → given' ≡ given → read ≡ unread → Sends sent sent_after losses losses_after []
@@ -232,3 +241,20 @@ finished_cause told kept moment left_since before after records puts posts sent_
         → HasBatchCause link link_then clock clock_after said
     by_case said (all_put between' first then closed sends) = stop_cause link link_then clock clock_after count why cause
     by_case said (none_put _ some quiet does) = by_commit said does
+
+-- ---- how a commit before an end went
+
+module _ {D : Type 0} (told : Bool) (kept : D → Kept) (moment : D → ℕ) (left_since : D → ℕ → List ℕ → Type 0) (before after : D) (records puts : List Record) (posts : List Datagram)
+    (sent_before sent_after : Option (List Datagram)) (losses_before losses_after count : ℕ) (why : Stop) (said : Status) where
+  pub all_finished : (between' : D) (next : List Record) → next ≡ records ++ puts → Changes told moment left_since before between' records next
+      → Changes told moment left_since between' after next next → ((said : Status) → why ≡ stop.With said → after ≡ between')
+      → Sends sent_before sent_after losses_before losses_after posts → said ≡ status_of count why
+      → HasFinished told kept moment left_since before after records puts posts sent_before sent_after losses_before losses_after count why said
+  all_finished between' next same first then closed sends says =
+      subst (λ s. HasFinished told kept moment left_since before after records puts posts sent_before sent_after losses_before losses_after count why s) (sym says)
+      (all_put between' (subst (λ (rs : List Record). Changes told moment left_since before between' records rs) same first)
+      (subst (λ (rs : List Record). Changes told moment left_since between' after rs rs) same then) closed sends)
+
+  pub none_finished : puts ≢ [] → (sent_after ≡ sent_before) × (losses_after ≡ losses_before) → EndsCommit (IsDoing told kept moment left_since before after records) puts said
+      → HasFinished told kept moment left_since before after records puts posts sent_before sent_after losses_before losses_after count why said
+  none_finished some quiet does = none_put said some (sends_same sent_before sent_after losses_before losses_after quiet.0 quiet.1) does

@@ -8,7 +8,7 @@ use Rattle.object_store.specs.declared.store.Store.{Store}
 use Rattle.object_store.specs.Waits.{recs_of, records_with, end_with}
 use Rattle.node_links.specs.declared.link.Datagram.{Datagram}
 use Rattle.node_mail.specs.Posts.{datagrams_of_all}
-use Rattle.node_mail.specs.declared.posting.Post.{Post}
+use Rattle.node_mail.specs.declared.packed.Post.{Post}
 use Rattle.node_runs.specs.Links.{Sends}
 use Rattle.node_runs.specs.Runs.{JournalAt, Served}
 use Rattle.node_runs.specs.BatchEnds.{FitsIn, listed}

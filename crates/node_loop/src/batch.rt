@@ -91,7 +91,7 @@ impl Batch {
         ensures staged { OnOk result (HasStaged D.is_told (journal_then store.now self.old)
             (puts_of D.is_told self.old) (puts_of D.is_told self.new) rec.now) }
         ensures journal { OnOk result (journal_then store.now self.new ≡ grown (journal_then store.now self.old) rec.now) }
-        ensures same { OnErr result (self.new.records ≡ self.old.records) }
+        ensures same { OnErr result (recs_of self.new.records ≡ recs_of self.old.records) }
         ensures ends { IfErr result (λ why. IfSome rec.now (λ rec.
             EndsStage (journal_at store.now).limit (needed_in (journal_then store.now self.old) rec) why)) }
         ensures some { OnErr result (rec.now ≢ None) }

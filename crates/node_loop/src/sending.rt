@@ -1,4 +1,4 @@
-ghost use Rattle.std.specs.Prelude.{◌≡◌, ◌++◌, OnOk, OnErr};
+ghost use Rattle.std.specs.Prelude.{◌≡◌, Bool, OnOk, OnErr};
 ghost use Rattle.std.specs.List.{All};
 ghost use Rattle.xt_messages.specs.Limits.{FitsMessage};
 ghost use Rattle.node_runs.specs.Posting.{one_posted, posted, none_posted, HasPosted, HasSentFront};

@@ -1,5 +1,6 @@
-use Rattle.std.proofs.Common.{refl, sym, ap, ◌∙◌}
+use Rattle.std.proofs.Common.{ap, subst}
 use Rattle.object_store.specs.Access.{records_of, disk_of}
+use Rattle.node_loop.specs.Passing.{IsReason}
 use Rattle.node_loop.proofs.Committing.{reason_cause}
 use Rattle.node_loop.proofs.Counting.{stays_changed}
 use Rattle.node_loop.proofs.batch.end_with.Goals as goal
@@ -12,4 +13,4 @@ returns-in-With-clause-changes g c =
     (λ disk image told left. g.met.D.Disk.only_now disk image told left)
 
 pub returns-in-With-clause-disk_cause : goal.returns-in-With-clause-disk_cause
-returns-in-With-clause-disk_cause g c = reason_cause _ _ c.in-With.status c.requires.known (ap g.D.Disk.fault_count c.close.ensures)
+returns-in-With-clause-disk_cause g c = reason_cause _ _ c.in-With.status (subst IsReason c.in-With.is c.requires.known) (ap g.D.Disk.fault_count c.close.ensures)

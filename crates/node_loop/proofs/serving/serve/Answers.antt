@@ -7,7 +7,7 @@ use Rattle.node_loop.specs.Batched.{held_of, posts_of, puts_of}
 use Rattle.node_loop.specs.Settling.{served_of}
 use Rattle.node_loop.proofs.Counting.{cause_since}
 use Rattle.node_loop.proofs.Coming.{comes_first, comes_on, is_served_on, HasCome}
-use Rattle.node_loop.proofs.Finishing.{cause_from, ended_by, gives_up}
+use Rattle.node_loop.proofs.Finishing.{cause_from, ended_then, finished_cause, gives_up}
 use Rattle.node_loop.proofs.Holding.{held_alone, is_held, kept_alone, none_can}
 use Rattle.node_loop.proofs.serving.serve.Goals as goal
 
@@ -78,8 +78,8 @@ loop-preserved g c =
           (held_of g.N.Node.state c.loop.site c.loop.store c.loop.batch) (records_of c.loop.store) (disk_of c.loop.store) _ _ _ _ _ inv.11
           (is_held g.N.Node.state c.loop.site c.loop.store c.loop.batch inv.10)
           D.kept (disk_of c.in-Ok.kept) _ _ _ _ (g.N.Node.role c.loop.site.node) c.loop.site.sender.boot inv.0 inv.1
-          (held_of g.N.Node.state c.advance.new.site c.in-Ok.kept c.advance.new.batch) (records_of c.in-Ok.kept) _ e.advanced
-          (is_held g.N.Node.state c.advance.new.site c.in-Ok.kept c.advance.new.batch e.may),
+          (held_of g.N.Node.state c.advance.new.self c.in-Ok.kept c.advance.new.batch) (records_of c.in-Ok.kept) _ e.advanced
+          (is_held g.N.Node.state c.advance.new.self c.in-Ok.kept c.advance.new.batch e.may),
     )
 
 pub returns-in-Err-clause-keeps : goal.returns-in-Err-clause-keeps
@@ -120,11 +120,40 @@ returns-clause-keeps g c =
     let inv = c.loop.invariant in
     let role = g.N.Node.role s.node in
     let held = held_of g.N.Node.state now store c.loop.batch in
+    let fin = c.finish-status in
     let stopped = gives_up D.is_told role s.sender.boot c.args.bounds.period c.args.bounds.turns c.loop.spent held
     (g.L.Link.given c.loop.link) (g.L.Link.sent c.loop.link) (g.L.Link.loss_count c.loop.link) (g.C.Clock.readings c.loop.clock) in
-    let ended = ended_by D.is_told D.kept D.moment D.left_since g.met.D.Disk.counts_now role s.sender.boot c.args.bounds.period c.args.bounds.turns c.loop.spent held
-    (records_of store) (disk_of store) c.finish.result.disk refl _ _ _ _ _ _ _ _ _ _ (puts_of D.is_told c.loop.batch) (posts_of c.loop.batch) _ _ c.finish.result.status stopped c.finish.ensures.finished in
+    let ended = ended_then D.is_told D.kept D.moment D.left_since g.met.D.Disk.counts_now role s.sender.boot c.args.bounds.period c.args.bounds.turns c.loop.spent held
+    (records_of store) (disk_of store) fin.result.disk refl _ _ _ _ _ _ _ _ _ _ (puts_of D.is_told c.loop.batch) (posts_of c.loop.batch) _ _ _ fin.result.status fin.ensures.given stopped fin.ensures.finished in
     is_served_on D.is_told role s.sender.boot c.args.bounds.period start _ _ _ _ D.moment D.left_since (disk_of c.args.store)
     held (records_of store) (disk_of store) _ _ _ _ _ inv.11
     (is_held g.N.Node.state now store c.loop.batch inv.10)
     D.kept _ _ _ _ _ c.args.bounds.turns role s.sender.boot refl refl _ ended
+
+pub returns-clause-served : goal.returns-clause-served
+returns-clause-served g c =
+    let D = g.D.Disk in
+    let s = c.args.site.now in
+    let now = c.loop.site in
+    let store = c.loop.store in
+    let start = served_of g.N.Node.state s c.args.store in
+    let inv = c.loop.invariant in
+    let role = g.N.Node.role s.node in
+    let held = held_of g.N.Node.state now store c.loop.batch in
+    let fin = c.finish-status in
+    let stopped = gives_up D.is_told role s.sender.boot c.args.bounds.period c.args.bounds.turns c.loop.spent held
+    (g.L.Link.given c.loop.link) (g.L.Link.sent c.loop.link) (g.L.Link.loss_count c.loop.link) (g.C.Clock.readings c.loop.clock) in
+    let ended = ended_then D.is_told D.kept D.moment D.left_since g.met.D.Disk.counts_now role s.sender.boot c.args.bounds.period c.args.bounds.turns c.loop.spent held
+    (records_of store) (disk_of store) fin.result.disk refl _ _ _ _ _ _ _ _ _ _ (puts_of D.is_told c.loop.batch) (posts_of c.loop.batch) _ _ _ fin.result.status fin.ensures.given stopped fin.ensures.finished in
+    (is_served_on D.is_told role s.sender.boot c.args.bounds.period start _ _ _ _ D.moment D.left_since (disk_of c.args.store)
+    held (records_of store) (disk_of store) _ _ _ _ _ inv.11
+    (is_held g.N.Node.state now store c.loop.batch inv.10)
+    D.kept _ _ _ _ _ c.args.bounds.turns role s.sender.boot refl refl _ ended).0
+
+pub returns-clause-cause : goal.returns-clause-cause
+returns-clause-cause g c =
+    let D = g.D.Disk in
+    let fin = c.finish-status in
+    cause_from _ _ _ _ _ _ _ c.loop.invariant.7 c.loop.invariant.8
+    (finished_cause D.is_told D.kept D.moment D.left_since _ _ _ _ _ _ _ _ _ _ _ _ (g.L.Link.fault_count c.loop.link) (g.L.Link.fault_count c.loop.link) (g.L.Link.fault_count fin.new.link)
+    (g.C.Clock.fault_count c.loop.clock) (g.C.Clock.fault_count c.loop.clock) fin.ensures.finished fin.ensures.faults (refl, refl))

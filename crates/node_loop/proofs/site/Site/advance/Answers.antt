@@ -8,7 +8,7 @@ use Rattle.node_loop.specs.Passing.{by_pass, by_commit, by_look}
 use Rattle.node_loop.specs.Settling.{served_of}
 use Rattle.node_loop.proofs.Advancing.{commits_so, no_puts, no_posts, looks_from, settles_as, ends_settling_as}
 use Rattle.node_loop.proofs.Counting.{stays_changed}
-use Rattle.node_loop.proofs.Finishing.{ended_by, look_ends, finished_cause}
+use Rattle.node_loop.proofs.Finishing.{ended_then, look_ends, finished_cause}
 use Rattle.node_loop.proofs.Holding.{now_alone}
 use Rattle.node_loop.proofs.Settling.{settling_cause}
 use Rattle.node_loop.proofs.Turning.{map_ok, map_err}
@@ -21,6 +21,6 @@ pub returns-in-Err-clause-ended : goal.returns-in-Err-clause-ended
 returns-in-Err-clause-ended g c =
     let D = g.D.Disk in
     let s = c.args.self.now in
-    ended_by D.is_told D.kept D.moment D.left_since g.met.D.Disk.counts_now (g.N.Node.role s.node) s.sender.boot c.args.bounds.period c.args.bounds.turns c.args.spent.now
+    ended_then D.is_told D.kept D.moment D.left_since g.met.D.Disk.counts_now (g.N.Node.role s.node) s.sender.boot c.args.bounds.period c.args.bounds.turns c.args.spent.now
     (held_of g.N.Node.state s c.args.store c.args.batch.now) (records_of c.args.store) (disk_of c.args.store) c.finish.result.disk refl _ _ _ _ _ _ _ _ _ _
-    (puts_of D.is_told c.pass.new.batch) (posts_of c.pass.new.batch) _ _ c.finish.result.status c.in-Err.ensures.stopped c.finish.ensures.finished
+    (puts_of D.is_told c.pass.new.batch) (posts_of c.pass.new.batch) _ _ _ c.finish.result.status c.finish.ensures.given c.in-Err.ensures.stopped c.finish.ensures.finished
