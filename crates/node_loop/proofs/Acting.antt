@@ -1,7 +1,9 @@
 -- what an event leaves
-use Rattle.std.proofs.Common.{ℕ, ◌≡◌, sym, ◌∙◌, ap, subst, Bool, Option, Some, None, List, ◌++◌, length, take, inl, inr, ◌⊎◌}
+use Rattle.std.proofs.Common.{ℕ, ◌≡◌, ◌≢◌, refl, ◌∷◌, sym, ◌∙◌, ap, subst, Bool, Option, Some, None, List, ◌++◌, length, take, inl, inr, ◌⊎◌}
 use Rattle.std.proofs.Math.Seq.{take-length}
 use Rattle.std.specs.List.{All}
+use Rattle.std.specs.Option.{IfSome}
+use Rattle.std.proofs.lemmas.List.{append-nil, append_assoc}
 use Rattle.std.proofs.lemmas.List.Elements.{All-append, All-filter}
 use Rattle.std.specs.Prelude.{◌==◌, []}
 use Rattle.xt_base.specs.declared.ids.NodeId.{NodeId}
@@ -14,7 +16,8 @@ use Rattle.xt_messages.specs.declared.status.Status.{Status}
 use Rattle.xt_messages.specs.declared.status.Status.TheVariants as status
 use Rattle.replica_records.specs.Known.{Sees}
 use Rattle.client_rows.specs.Steps.{Step}
-use Rattle.world_spec.specs.NodeSteps.{to_itself}
+use Rattle.world_spec.specs.NodeSteps.{to_itself, one_more}
+use Rattle.node_runs.specs.BatchEnds.{listed}
 use Rattle.node_links.specs.declared.link.Datagram.{Datagram}
 use Rattle.node_runs.specs.Hearing.{Book}
 use Rattle.node_runs.specs.Posting.{Posted, posted, none_posted, HasPosted, HasSentFront}
@@ -49,6 +52,39 @@ pub ends_stage : {S : Type 0} (step : Step S) (node : NodeId) (boot : Boot) (boo
 ends_stage step node boot book before journal mailed staged rec (stop.With (status.JournalFull need limit)) is none without full = (none, without, (rec, is, full))
 ends_stage step node boot book before journal mailed staged rec (stop.With status.OutOfMemory) is none without full = inl (none, without)
 ends_stage step node boot book before journal mailed staged rec _ is none without full = absurd full
+
+-- where it isn't staged, the event has a record
+pub ends_staging : {S : Type 0} (step : Step S) (node : NodeId) (boot : Boot) (book : Book) (before : ℕ) (journal : JournalAt)
+    (mailed : List Datagram → Type 0) (staged : Option Record → Type 0) (rec : Option Record) (why : Stop) → step.turned.rec ≡ rec → rec ≢ None → mailed [] → staged None
+    → IfSome rec (λ rec. EndsStage journal.limit (needed_in journal rec) why)
+    → EndsEvent step node boot book before journal mailed staged why
+ends_staging step node boot book before journal mailed staged None why is some none without full = absurd (some refl)
+ends_staging step node boot book before journal mailed staged (Some rec) why is some none without full =
+    ends_stage step node boot book before journal mailed staged rec why is none without full
+
+-- no step was made
+pub ends_unmade : {S : Type 0} (step : Step S) (node : NodeId) (boot : Boot) (book : Book) (before : ℕ) (journal : JournalAt)
+    (mailed : List Datagram → Type 0) (staged : Option Record → Type 0) (why : Stop) → (why ≡ stop.Unread) ⊎ (why ≡ stop.With status.OutOfMemory) → mailed [] → staged None
+    → EndsEvent step node boot book before journal mailed staged why
+ends_unmade step node boot book before journal mailed staged why (inl is) none without =
+    subst (λ w. EndsEvent step node boot book before journal mailed staged w) (sym is) (none, without)
+ends_unmade step node boot book before journal mailed staged why (inr is) none without =
+    subst (λ w. EndsEvent step node boot book before journal mailed staged w) (sym is) (inl (none, without))
+
+-- the records with those that wait, where one more does
+pub kept_grows : (records puts wait : List Record) (rec : Option Record) → wait ≡ puts ++ listed rec → records ++ wait ≡ one_more (records ++ puts) rec
+kept_grows records puts wait None is = ap (λ (rs : List Record). records ++ rs) (is ∙ append-nil puts)
+kept_grows records puts wait (Some rec) is = ap (λ (rs : List Record). records ++ rs) is ∙ sym (append_assoc records puts (rec ∷ []))
+
+-- a prefix went, of the same messages
+pub front_as : (node home : NodeId) (boot : Boot) (book kept : Book) (before : ℕ) (msgs outs : List Msg) (mailed went : List Datagram → Type 0) → node ≡ home → book ≡ kept → msgs ≡ outs
+    → ((ds : List Datagram) → mailed ds → went ds) → HasSentFront node boot book before msgs mailed → HasSentFront home boot kept before outs went
+front_as node home boot book kept before msgs outs mailed went e same are as_told is = (
+  is.0,
+  subst (λ n. went (posted n boot kept (none_posted before) (take is.0 outs)).datagrams) e
+      (subst (λ b. went (posted node boot b (none_posted before) (take is.0 outs)).datagrams) same
+      (subst (λ ms. went (posted node boot book (none_posted before) (take is.0 ms)).datagrams) are (as_told (posted node boot book (none_posted before) (take is.0 msgs)).datagrams is.1))),
+)
 
 -- the node after an event, whose messages to itself were queued
 pub has_acted : {S : Type 0} (told : Bool) (role : Role S) (boot : Boot) (old : Served S) (happens : Event) (seen : List Record) (node : NodeId) (book : Book)

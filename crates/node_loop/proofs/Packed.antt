@@ -1,5 +1,6 @@
 -- messages that wait, after others
 use Rattle.std.proofs.Common.{ℕ, ◌≡◌, ◌∙◌, sym, ap, List, ◌++◌}
+use Rattle.std.specs.Prelude.{Result, Ok, Err, OnErr}
 use Rattle.std.proofs.lemmas.List.{append_assoc}
 use Rattle.xt_base.specs.declared.ids.NodeId.{NodeId}
 use Rattle.xt_base.specs.declared.ids.Boot.{Boot}
@@ -25,3 +26,7 @@ waits_more node boot book before msg count start between after waits one =
       went = one.went ∙ ap (λ (ds : List Datagram). ds ++ its) waits ∙ append_assoc (datagrams_of_all start) before.datagrams its
           ∙ ap (λ (ds : List Datagram). datagrams_of_all start ++ ds) (sym (ap (λ (p : Posted). p.datagrams) at));
     }
+
+pub map_on_err : {A B P Q : Type 0} (r : Result A B) → (P → Q) → OnErr r P → OnErr r Q
+map_on_err (Ok x) f is = tt
+map_on_err (Err e) f is = f is

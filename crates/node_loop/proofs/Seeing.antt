@@ -3,6 +3,7 @@ use Rattle.std.proofs.Common.{◌≡◌, ◌∙◌, refl, sym, ap, subst, Bool, 
 use Rattle.std.specs.List.{All}
 use Rattle.std.specs.Option.{IfSome, option_map}
 use Rattle.std.proofs.lemmas.List.Elements.{All-append}
+use Rattle.std.proofs.Math.Logic.{∥∥₁_elim}
 use Rattle.disk_model.specs.declared.disk.Disk.{Ghosts}
 use Rattle.xt_messages.specs.Limits.{FitsRecord}
 use Rattle.xt_messages.specs.declared.record.Folded.{Folded}
@@ -14,12 +15,21 @@ use Rattle.replica_records.proofs.Known.{fold_known, known_append}
 use Rattle.object_store.specs.declared.reader.Reader.{Reader}
 use Rattle.object_store.specs.declared.store.Store.{Store}
 use Rattle.object_store.specs.Access.{records_of}
+use Rattle.object_store.proofs.Callers.{store_known}
+use Rattle.object_store.specs.FitProps.{all_fit_prop}
 use Rattle.object_store.specs.Layers.{AgreesOver}
 use Rattle.object_store.specs.Readers.{seen_of}
 use Rattle.object_store.specs.Seen.{agreed, read_of, store_of}
 use Rattle.object_store.specs.Waits.{records_with}
 use Rattle.world_spec.specs.NodeSteps.{one_more}
 use Rattle.node_loop.specs.Events.{Fits}
+
+-- these very records, for one
+sees_itself : {D : Type 0} {g : Ghosts D} (store : Store D g) → Sees g.is_told (records_of store) (records_of store)
+sees_itself store = record {
+  same = store_known store;
+  fit = ∥∥₁_elim store.sound (all_fit_prop (records_of store)) (λ are. are.fit);
+}
 
 -- what it sees says what is known
 pub says_so : (told : Bool) (known seen : List Record) → Sees told known seen → fold_of seen ≡ fold_of known
@@ -46,6 +56,10 @@ sees_with told known lower recs sees fit = record {
   same = known_append told lower recs ∙ ap (λ (rs : List Record). rs ++ known_of told recs) sees.same;
   fit = All-append FitsRecord lower recs sees.fit fit;
 }
+
+-- what is known of a store with records that wait can be seen as them
+pub sees_all : {D : Type 0} {g : Ghosts D} (store : Store D g) (recs : List Record) → All FitsRecord recs → Sees g.is_told (records_with store recs) (records_of store ++ recs)
+sees_all {g = g} store recs fit = sees_with g.is_told (records_of store) (records_of store) recs (sees_itself store) fit
 
 -- what agrees with the bodies of a store that were read, and then with those that wait, is seen of its records with those that wait
 pub sees_over : {D : Type 0} {g : Ghosts D} (store : Store D g) (reader : Reader D g) (recs records : List Record) → store_of reader ≡ store → All FitsRecord recs

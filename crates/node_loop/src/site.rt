@@ -148,16 +148,22 @@ impl<N: Node> Site<N> {
             (HasStaged D.is_told (journal_then store.now batch.old) (puts_of D.is_told batch.old) (puts_of D.is_told batch.new))
             why)) }
     {
-        let turned = step_on(
+        let turned = match step_on(
             alloc,
             &mut self.node,
             store,
             &batch.records,
             self.clock,
             happens,
-        )?;
+        ) {
+            Ok(turned) => turned,
+            Err(why) => return Err(why),
+        };
         let (rec, outs, _marks) = turned.into_parts();
-        batch.stage(alloc, store, &rec)?;
+        match batch.stage(alloc, store, &rec) {
+            Ok(()) => {}
+            Err(why) => return Err(why),
+        }
         let book = self.ears.book();
         let Ok(()) = mail(
             alloc,

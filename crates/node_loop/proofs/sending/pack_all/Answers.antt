@@ -8,7 +8,7 @@ use Rattle.node_loop.proofs.Packed.{waits_more}
 use Rattle.node_loop.proofs.sending.pack_all.Goals as goal
 
 pub loop-msg-preserved : goal.loop-msg-preserved
-loop-msg-preserved g c =
+loop-msg-preserved c =
     let i = c.loop-msg.msg-index in
     let s = c.args.sender.now in
     let inv = c.loop-msg.invariant in
