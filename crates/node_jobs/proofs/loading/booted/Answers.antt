@@ -5,7 +5,10 @@ use Rattle.xt_messages.specs.Limits.{FitsBoot}
 use Rattle.xt_messages.specs.declared.record.Record.{Record}
 use Rattle.xt_messages.specs.declared.record.Record.TheVariants as kept
 use Rattle.xt_journal.specs.Access as journal
+use Rattle.xt_journal.specs.Append.{IsWithOrWithout}
+use Rattle.replica_records.specs.RecordText.{record_text}
 use Rattle.object_store.specs.Access.{disk_of, records_of}
+use Rattle.object_store.specs.Texts.{texts_of}
 use Rattle.object_store.proofs.Stored.{as_known_there}
 use Rattle.node_runs.specs.BatchEnds.{nothing}
 use Rattle.node_runs.specs.Keeping.{KeepsOn, StandsForOne}
@@ -15,7 +18,7 @@ use Rattle.node_loop.specs.Stores.{journal_at}
 use Rattle.node_jobs.specs.Boots.{stored_boot, next_boot, boot_record}
 use Rattle.node_jobs.proofs.Bare.{boot_known, stored_bare}
 use Rattle.node_jobs.proofs.Boots.{breaks, lacks_room, last_stored, refuses}
-use Rattle.node_jobs.proofs.Disks.{keeps_closed, leaves_records}
+use Rattle.node_jobs.proofs.Disks.{keeps_closed, leaves_records, rose_by_one}
 use Rattle.node_jobs.proofs.loading.booted.Goals as goal
 
 pub returns-then-last-ge-LAST_BOOT-clause-ends : goal.returns-then-last-ge-LAST_BOOT-clause-ends
@@ -70,7 +73,8 @@ returns-in-Err-Broken-clause-ends g c =
     let fits : FitsBoot (next_boot (records_of store)) = omega (arith, early, last) in
     breaks store c.in-Err-Broken.disk (kept.Boot (record { 0 = c.stored_boot-last.result + 1 })) (ap (λ (n : ℕ). kept.Boot (record { 0 = n + 1 })) last) fits
     put.any_moment c.in-Err-Broken.count put.end.room
-    (λ t image told le now. g.met.D.Disk.counts_now c.in-Err-Broken.disk t image told le now) ?
+    (λ t image told le now. g.met.D.Disk.counts_now c.in-Err-Broken.disk t image told le now)
+    (rose_by_one (g.D.Disk.fault_count (disk_of store)) (g.D.Disk.fault_count c.in-Err-Broken.disk) put.faults, put.end.fault)
 
 pub returns-in-Err-Full-clause-ends : goal.returns-in-Err-Full-clause-ends
 returns-in-Err-Full-clause-ends g c =
@@ -95,4 +99,9 @@ returns-in-Err-OutOfMemory-clause-ends g c =
     let early : c.stored_boot-last.result < 4611686018427387903 = search rules in
     let fits : FitsBoot (next_boot (records_of store)) = omega (arith, early, last) in
     let closed = c.close-in-Err-OutOfMemory in
-    ?
+    let made : Record = kept.Boot (record { 0 = c.stored_boot-last.result + 1 }) in
+    refuses store closed.result made (ap (λ (n : ℕ). kept.Boot (record { 0 = n + 1 })) last) fits
+    (subst (λ disk. IsTrue D.is_told → LeavesOnly D.moment D.left_since (disk_of store) disk (IsWithOrWithout (texts_of (records_of store)) (record_text made)))
+    (sym closed.ensures) put.any_moment)
+    (ap D.fault_count closed.ensures ∙ put.faults)
+    (leaves_records (λ disk image told left. g.met.D.Disk.only_now disk image told left) store closed.result (ap D.kept closed.ensures ∙ put.end.kept))
