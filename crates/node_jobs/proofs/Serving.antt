@@ -1,5 +1,5 @@
 -- a node that was ready and served
-use Rattle.std.proofs.Common.{ℕ, ◌+◌, ◌<◌, ◌^◌, Option, ◌≡◌, sym, ap, subst, inl, ◌∙◌, false, List, [], ◌∷◌}
+use Rattle.std.proofs.Common.{ℕ, ◌+◌, ◌<◌, ◌^◌, Option, ◌≡◌, sym, ap, subst, ◌∙◌, false, List, [], ◌∷◌}
 use mathlib.Core.Path.{transport}
 use Rattle.std.specs.Prelude.{IsTrue}
 use Rattle.std.specs.List.{All}
@@ -16,11 +16,10 @@ use Rattle.object_store.specs.declared.store.Store.{Store}
 use Rattle.object_store.specs.Access.{disk_of, records_of}
 use Rattle.object_store.specs.Texts.{AreRecords}
 use Rattle.node_links.specs.Streams.{Puts}
-use Rattle.node_runs.specs.BatchEnds.{HasBatchCause, IsServedInBatches, KeepsBatches}
+use Rattle.node_runs.specs.BatchEnds.{IsServedInBatches, KeepsBatches}
 use Rattle.node_runs.specs.Batches.{kept_at}
 use Rattle.node_runs.specs.Hearing.{Ears}
 use Rattle.node_runs.specs.Runs.{Role, Served, JournalAt}
-use Rattle.node_runs.specs.Serving.{HasServeCause}
 use Rattle.node_runs.proofs.Keeping.{from_before}
 use Rattle.node_loop.specs.Events.{HasDiskCause}
 use Rattle.node_loop.specs.Turns.{standing}
@@ -126,19 +125,6 @@ not_started {g = g} only_now ready limit before after store boot reading journal
   faults = ap g.fault_count closed ∙ is.comes_to.faults ∙ is.comes.faults;
   keeps = closed_from only_now before.disk is.loaded after.disk store is.records is.comes is.comes_to is.all_are closed;
 })
-
--- ---- why a node ended
-
--- a node that ended before it served
-pub cause_early : (link_before link_after clock_before clock_after : ℕ) (said : Status) → HasServeCause link_before link_after clock_before clock_after said
-    → HasBatchCause link_before link_after clock_before clock_after said
-cause_early l l' c c' (status.DiskFault count) cause = inl cause
-cause_early l l' c c' status.OutOfMemory cause = inl cause
-cause_early l l' c c' _ cause = cause
-
--- a node that served, where no call had failed before
-pub cause_later : (l0 l1 l2 c0 c1 c2 : ℕ) (said : Status) → l1 ≡ l0 → c1 ≡ c0 → HasBatchCause l1 l2 c1 c2 said → HasBatchCause l0 l2 c0 c2 said
-cause_later l0 l1 l2 c0 c1 c2 said e f is = subst (λ n. HasBatchCause n l2 c0 c2 said) e (subst (λ n. HasBatchCause l1 l2 n c2 said) f is)
 
 -- what was said is what is to be said
 module _ {D : Type 0} (m : Medium D) (before after : Outside D) (said ready : List ℕ) (same : said ≡ ready) where

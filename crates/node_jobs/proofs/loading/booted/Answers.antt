@@ -84,11 +84,12 @@ returns-in-Err-Full-clause-ends g c =
     let last : c.stored_boot-last.result ≡ stored_boot (records_of store) = c.stored_boot-last.ensures ∙ ap stored_boot c.records.ensures ∙ stored_bare (records_of store) in
     let early : c.stored_boot-last.result < 4611686018427387903 = search rules in
     let fits : FitsBoot (next_boot (records_of store)) = omega (arith, early, last) in
-    let same : c.close.result ≡ disk_of store = c.close.ensures ∙ ap (λ j. journal.disk_of j) put.end.journal in
-    lacks_room store c.close.result (kept.Boot (record { 0 = c.stored_boot-last.result + 1 })) c.in-Err-Full.need c.in-Err-Full.limit
+    let closed = c.close-in-Err-Full in
+    let same : closed.result ≡ disk_of store = closed.ensures ∙ ap (λ j. journal.disk_of j) put.end.journal in
+    lacks_room store closed.result (kept.Boot (record { 0 = c.stored_boot-last.result + 1 })) c.in-Err-Full.need c.in-Err-Full.limit
     (ap (λ (n : ℕ). kept.Boot (record { 0 = n + 1 })) last) fits (put.end.over, put.end.need_is, put.end.limit_is) (ap D.fault_count same)
-    (keeps_closed (λ disk image told left. g.met.D.Disk.only_now disk image told left) store c.close.result same)
-    (leaves_records (λ disk image told left. g.met.D.Disk.only_now disk image told left) store c.close.result (ap D.kept same))
+    (keeps_closed (λ disk image told left. g.met.D.Disk.only_now disk image told left) store closed.result same)
+    (leaves_records (λ disk image told left. g.met.D.Disk.only_now disk image told left) store closed.result (ap D.kept same))
 
 pub returns-in-Err-OutOfMemory-clause-ends : goal.returns-in-Err-OutOfMemory-clause-ends
 returns-in-Err-OutOfMemory-clause-ends g c =

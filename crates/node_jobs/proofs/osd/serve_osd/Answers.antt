@@ -7,7 +7,8 @@ use Rattle.node_roles.specs.Roles.{osd_role}
 use Rattle.node_jobs.specs.Jobs.{HasSinkCause, ended_early}
 use Rattle.node_jobs.proofs.Bare.{rows_bare}
 use Rattle.node_jobs.proofs.Jobs.{served_sink}
-use Rattle.node_jobs.proofs.Serving.{cause_early, cause_later, has_done, not_started, says_early, says_so}
+use Rattle.node_jobs.proofs.Causes.{ended_early_by, served_from}
+use Rattle.node_jobs.proofs.Serving.{has_done, not_started, says_early, says_so}
 use Rattle.node_jobs.proofs.Osds.{osd_rows, osd_runs, osd_told}
 use Rattle.node_jobs.proofs.osd.serve_osd.Goals as goal
 
@@ -42,7 +43,7 @@ returns-clause-job g c =
 
 pub returns-clause-cause : goal.returns-clause-cause
 returns-clause-cause g c =
-    cause_later _ _ _ _ _ _ _ c.in-Ok-get_ready.ensures.faults.0 c.in-Ok-get_ready.ensures.faults.1 c.serve.ensures.cause
+    served_from _ _ _ _ _ _ _ c.in-Ok-get_ready.ensures.faults.0 c.in-Ok-get_ready.ensures.faults.1 c.serve.ensures.cause
 
 pub returns-clause-sink : goal.returns-clause-sink
 returns-clause-sink g c =
@@ -51,4 +52,4 @@ returns-clause-sink g c =
     (served_sink _ _ _ _ _ _ _ _ _ _ _ _ _ _ sink c.serve.result.0 c.serve.ensures.served)
 
 pub returns-in-Err-clause-cause : goal.returns-in-Err-clause-cause
-returns-in-Err-clause-cause g c = cause_early _ _ _ _ c.in-Err.ended.status c.in-Err.ensures.cause
+returns-in-Err-clause-cause g c = ended_early_by _ _ _ _ c.in-Err.ended.status c.in-Err.ensures.cause

@@ -1,9 +1,9 @@
 use Rattle.std.proofs.Common.{ap, ◌∙◌, refl, subst}
 use Rattle.xt_messages.specs.Limits.{FitsBoot}
 use Rattle.object_store.specs.Access.{disk_of, records_of}
-use Rattle.node_loop.proofs.Coming.{cause_from}
 use Rattle.node_loop.specs.Stores.{journal_at}
 use Rattle.node_jobs.specs.Jobs.{unbooted, unready}
+use Rattle.node_jobs.proofs.Causes.{cause_from}
 use Rattle.node_jobs.proofs.Disks.{closed_from, medium_of, stand_at, unbooted_from, within_at}
 use Rattle.node_jobs.proofs.readiness.get_ready.Goals as goal
 
