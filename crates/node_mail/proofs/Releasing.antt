@@ -3,7 +3,7 @@ use Rattle.std.proofs.Common.{ℕ, ◌≡◌, ◌<◌, ◌+◌, sym, ap, subst, 
 use Rattle.std.proofs.Math.Seq.{take-suc}
 use Rattle.std.proofs.lemmas.List.{append-nil}
 use Rattle.std.proofs.lemmas.Grind.{flat_map-append}
-use Rattle.node_mail.specs.declared.posting.Post.{Post}
+use Rattle.node_mail.specs.declared.packed.Post.{Post}
 use Rattle.node_mail.specs.Posts.{datagrams_of, datagrams_of_all}
 
 pub datagrams_more : (posts : List Post) (i : ℕ) (post : Post) → i < length posts → post ≡ get_or posts i post

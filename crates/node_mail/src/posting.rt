@@ -6,10 +6,11 @@ ghost use Rattle.node_runs.specs.Links.{Sends, OneSent};
 ghost use Rattle.node_runs.specs.Posting.{sent_to, datagrams_to};
 ghost use Rattle.node_mail.specs.Posts.{datagrams_of, datagrams_of_all};
 
+use crate::packed::Post;
 use message_ids::MessageId;
 use node_links::Link;
 use std::alloc::{AllocError, Global};
-use xt_base::{Address, Boot, FRAME, NodeId, Octets, OutOfMemory};
+use xt_base::{Address, Boot, FRAME, NodeId, OutOfMemory};
 use xt_frames::encode;
 use xt_messages::Msg;
 use xt_parts::{PartBuffer, part_count};
@@ -20,15 +21,6 @@ pub struct Sender {
     pub node: NodeId,
     pub boot: Boot,
     pub count: u64,
-}
-
-/// A message that is packed, and can be sent without any more memory: where to, which one it is, and its frame.
-#[derive(Drop)]
-pub struct Post {
-    pub address: Address,
-    pub id: MessageId,
-    pub frame: Octets,
-    pub ghost short: { length frame ≤ FRAME },
 }
 
 /// Hands a part to a link, and says whether it was taken.
