@@ -3,7 +3,7 @@ use Rattle.std.specs.List.{list_all}
 use Rattle.xt_parts.specs.Part.{parts_of}
 use Rattle.node_runs.specs.Links.{Sends}
 use Rattle.node_runs.specs.Posting.{sent_to}
-use Rattle.node_mail.proofs.posting.Post.release.Goals as goal
+use Rattle.node_mail.proofs.packed.Post.release.Goals as goal
 
 pub returns-clause-sends : goal.returns-clause-sends
 returns-clause-sends g c =
