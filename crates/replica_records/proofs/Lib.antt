@@ -7,6 +7,7 @@ pub mod OldLaws
 pub mod RecordLaws
 pub mod PayloadLength
 pub mod Placing
+mod Sealing
 pub mod BodyLaws
 pub mod Known
 pub mod BodyText

@@ -4,6 +4,7 @@ pub mod RecordText
 pub mod OldFields
 pub mod RecordFields
 pub mod Places
+pub mod Digests
 pub mod Known
 pub mod Bare
 pub mod Fronts

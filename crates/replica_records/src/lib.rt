@@ -6,6 +6,7 @@
 //! last start, and of each file its head and the bodies that it holds. Lists rise and are searched by halves.
 #![tactic(auto)]
 
+mod digests;
 mod errors;
 mod folding;
 mod front;
@@ -21,6 +22,7 @@ mod reading;
 mod spelling;
 mod writing;
 
+pub use digests::{BodyDigest, Digests};
 pub use errors::RecordErr;
 pub use folding::{Folding, fold};
 pub use front::record_front;
