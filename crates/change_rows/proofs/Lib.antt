@@ -1,0 +1,4 @@
+pub mod Waiting
+pub mod Promises
+pub mod Wakes
+pub mod Seats

@@ -1,0 +1,4 @@
+pub mod Changes
+pub mod Coordinating
+pub mod Laws
+pub mod Examples

@@ -1,0 +1,2 @@
+pub mod SeatList
+pub mod Inside
