@@ -1,0 +1,10 @@
+pub mod Order
+pub mod Uncounted
+pub mod Telling
+pub mod Plain
+pub mod Following
+pub mod Counted
+pub mod Sound
+pub mod Keeping
+pub mod Versions
+pub mod Granted
