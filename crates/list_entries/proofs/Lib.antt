@@ -1,0 +1,3 @@
+pub mod Moments
+pub mod Pushed
+pub mod Stretched
