@@ -1,0 +1,93 @@
+-- what is found in a store, and that nothing was written to it
+use Rattle.std.proofs.Common.{◌≡◌, ◌∙◌, ◌≤◌, ◌<◌, ◌+◌, ◌⊎◌, inl, inr, ⊎_elim, ℕ, Option, Some, None, List, [], length, refl, sym, ap, subst, arith}
+use Rattle.std.specs.Prelude.{IsTrue}
+use Rattle.disk_model.specs.declared.disk.Disk.{Ghosts}
+use Rattle.disk_model.specs.Disk.{Kept, IsImage, Elapses, LeavesOnly, at_rest}
+use Rattle.disk_model.proofs.Moments.{joined, unchanged}
+use Rattle.journal_areas.specs.declared.site.Area.{Area}
+use Rattle.journal_areas.specs.declared.superblock.Slot.{Slot}
+use Rattle.journal_areas.specs.Sites.{area_by, slot_of}
+use Rattle.xt_journal.specs.Access.{place_of, superblock_of}
+use Rattle.xt_journal.specs.Format.{end_in}
+use Rattle.xt_journal.specs.Loaded.{LeavesAsBefore}
+use Rattle.xt_journal.proofs.Steps.{place_of_end}
+use Rattle.object_store.specs.declared.store.Store.{Store}
+use Rattle.object_store.specs.Access.{area_of, disk_of, journal_of, records_of}
+use Rattle.object_store.specs.Texts.{texts_of}
+use Rattle.node_jobs.specs.Disks.{Medium, IsLeftUnloaded, IsLoaded, IsUnloaded}
+use Rattle.node_jobs.proofs.Disks.{medium_of}
+use Rattle.check_job.specs.Checking.{IsFoundIn, IsUnwritten, found_in}
+
+-- ---- where the journal ends
+
+area_end : (end : ℕ) (slot : Option Slot) → (area_by end slot).place ≤ end → (area_by end slot).place + (area_by end slot).length ≡ end + 1
+area_end end None began = omega (arith, began)
+area_end end (Some slot) began = omega (arith, began)
+
+module _ {D : Type 0} {g : Ghosts D} (store : Store D g) where
+  pub long_is : (area_of store).place + (area_of store).length ≡ place_of (journal_of store) + 1
+  long_is = area_end (place_of (journal_of store)) (slot_of (superblock_of (journal_of store))) store.journal.located.began
+
+  pub is_found : (before : D) (limit : ℕ) → IsLoaded (medium_of g) before limit store → IsTrue g.is_told → IsFoundIn (g.kept before).read (found_in store limit)
+  is_found before limit is told =
+      let super = superblock_of (journal_of store) in
+      let place : place_of (journal_of store) ≡ end_in super (texts_of (records_of store)) =
+      place_of_end super (g.kept (disk_of store)) (place_of (journal_of store)) (texts_of (records_of store)) ((journal_of store).ends told) (store.keeps told) in
+      inl (super, is.stood told, long_is ∙ ap (λ (n : ℕ). n + 1) place)
+
+-- ---- the file is chosen, and its length is read
+
+module _ {D : Type 0} (g : Ghosts D)
+    (only_now : (disk : D) (image : List ℕ) → IsTrue g.is_told → g.left_since disk (g.moment disk) image → IsImage (g.kept disk) image) where
+  -- a call that leaves what is kept
+  pub one_call : (old new : D) → (IsTrue g.is_told → g.kept new ≡ g.kept old)
+      → (IsTrue g.is_told → Elapses (g.moment old) (g.moment new) (g.left_since old) (g.left_since new) (g.kept new))
+      → IsTrue g.is_told → LeavesOnly g.moment g.left_since old new (IsImage (g.kept old))
+  one_call old new same time told =
+      unchanged g.moment g.left_since old new (g.kept old) (g.kept new) (same told) (λ image left. only_now old image told left) (time told)
+
+  -- and one more
+  pub two_calls : (old mid new : D) → (IsTrue g.is_told → g.kept mid ≡ g.kept old) → (IsTrue g.is_told → g.kept new ≡ g.kept mid)
+      → (IsTrue g.is_told → Elapses (g.moment old) (g.moment mid) (g.left_since old) (g.left_since mid) (g.kept mid))
+      → (IsTrue g.is_told → Elapses (g.moment mid) (g.moment new) (g.left_since mid) (g.left_since new) (g.kept new))
+      → IsTrue g.is_told → LeavesOnly g.moment g.left_since old new (IsImage (g.kept old))
+  two_calls old mid new same again first second told =
+      joined g.moment g.left_since old mid new (IsImage (g.kept old)) (IsImage (g.kept mid)) (IsImage (g.kept old)) (one_call old mid same first told)
+      (one_call mid new again second told) (λ image was. was) (λ image was. subst (λ (k : Kept). IsImage k image) (same told) was)
+
+-- ---- nothing was written
+
+-- where the file's contents were only looked at
+pub unwritten_chosen : {D : Type 0} (m : Medium D) (before chosen : D) → (IsTrue m.is_told → m.kept chosen ≡ m.kept before)
+    → (IsTrue m.is_told → LeavesOnly m.moment m.left_since before chosen (IsImage (m.kept before))) → IsUnwritten m before chosen
+unwritten_chosen m before chosen same each = record { same = λ told. ap (λ (k : Kept). k.read) (same told); each = each }
+
+module _ {D : Type 0} (m : Medium D) (before chosen after : D) (same : IsTrue m.is_told → m.kept chosen ≡ m.kept before)
+    (choosing : IsTrue m.is_told → LeavesOnly m.moment m.left_since before chosen (IsImage (m.kept before)))
+    (long : IsTrue m.is_told → 13 < length (m.kept before).read) where
+  long_there : IsTrue m.is_told → 13 < length (m.kept chosen).read
+  long_there told = subst (λ (k : Kept). 13 < length k.read) (sym (same told)) (long told)
+
+  as_before : IsTrue m.is_told → (image : List ℕ) → LeavesAsBefore (m.kept chosen) image → IsImage (m.kept before) image
+  as_before told image left =
+      ⊎_elim (λ was. subst (λ (k : Kept). IsImage k image) (same told) was) (λ unready. absurd (omega (arith, unready.0.0, long_there told))) left
+
+  pub unwritten : (IsTrue m.is_told → LeavesOnly m.moment m.left_since chosen after (LeavesAsBefore (m.kept chosen)))
+      → (IsTrue m.is_told → (m.kept after).read ≡ (m.kept chosen).read) → IsUnwritten m before after
+  unwritten loads read = record {
+    same = λ told. read told ∙ ap (λ (k : Kept). k.read) (same told);
+    each = λ told.
+        joined m.moment m.left_since before chosen after (IsImage (m.kept before)) (LeavesAsBefore (m.kept chosen)) (IsImage (m.kept before))
+        (choosing told) (loads told) (λ image was. was) (as_before told);
+  }
+
+  left_same : (new : Kept) → IsTrue m.is_told → IsLeftUnloaded (m.kept chosen) new → new.read ≡ (m.kept chosen).read
+  left_same new told left =
+      ⊎_elim
+      (λ disk. ⊎_elim (λ is. ap (λ (k : Kept). k.read) is)
+      (λ settled. ⊎_elim (λ is. ap (λ (k : Kept). k.read) is) (λ unready. absurd (omega (arith, unready.0.0, long_there told))) settled) disk)
+      (λ short. absurd (omega (arith, short.0, long_there told)))
+      left
+
+  pub unwritten_unloaded : {said : _} → IsUnloaded m chosen after said → IsUnwritten m before after
+  unwritten_unloaded is = unwritten is.each (λ told. left_same (m.kept after) told (is.left told))
