@@ -1,8 +1,9 @@
 -- What a store has of its records in memory, without their bodies, is reported as they are.
-use Rattle.std.proofs.Common.{◌≡◌, ◌∙◌, ◌+◌, ◌++◌, ℕ, List, [], ◌∷◌, length, codes, cond, refl, sym, ap, arith, length-append}
+use Rattle.std.proofs.Common.{◌≡◌, ◌∙◌, ◌+◌, ◌++◌, ◌≤◌, ◌<◌, ℕ, Bool, true, false, List, [], ◌∷◌, length, codes, cond, refl, sym, ap, arith, length-append}
 use Rattle.std.specs.Prelude.{nat_lt, if◌then◌else◌}
 use Rattle.std.specs.List.{count_by}
 use Rattle.std.specs.Str.{bytes_eq}
+use Rattle.std.proofs.lemmas.Bool.Decides.{nat_tests}
 use Rattle.xt_base.specs.Faults.{counted}
 use Rattle.xt_base.specs.declared.ids.Boot.{Boot}
 use Rattle.xt_fields.specs.BasicFields.{byte_bytes, long_bytes}
@@ -57,3 +58,17 @@ status_is records long limit = ap (λ (need : ℕ). status_by need limit) (need_
 
 pub status_same : (records : List Record) (long limit : ℕ) → status_at (bare_of records) long limit ≡ status_at records long limit
 status_same records long limit = status_is (bare_of records) long limit ∙ sym (status_is records long limit)
+
+full_case : (need limit : ℕ) (b : Bool) → nat_lt limit need ≡ b → limit < need → status.JournalFull need limit ≡ cond b (status.JournalFull need limit) status.Done
+full_case need limit true is over = refl
+full_case need limit false is over = absurd (grind (arith, nat_tests))
+
+room_case : (need limit : ℕ) (b : Bool) → nat_lt limit need ≡ b → need ≤ limit → status.Done ≡ cond b (status.JournalFull need limit) status.Done
+room_case need limit false is under = refl
+room_case need limit true is under = absurd (grind (arith, nat_tests))
+
+pub is_full : (records : List Record) (long limit need : ℕ) → need ≡ counted (long + 14) → limit < need → status.JournalFull need limit ≡ status_at records long limit
+is_full records long limit need is over = full_case need limit (nat_lt limit need) refl over ∙ ap (λ (n : ℕ). status_by n limit) is ∙ sym (status_is records long limit)
+
+pub has_room : (records : List Record) (long limit need : ℕ) → need ≡ counted (long + 14) → need ≤ limit → status.Done ≡ status_at records long limit
+has_room records long limit need is under = room_case need limit (nat_lt limit need) refl under ∙ ap (λ (n : ℕ). status_by n limit) is ∙ sym (status_is records long limit)

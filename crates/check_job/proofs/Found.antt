@@ -13,10 +13,16 @@ use Rattle.xt_journal.specs.Loaded.{LeavesAsBefore}
 use Rattle.xt_journal.proofs.Steps.{place_of_end}
 use Rattle.object_store.specs.declared.store.Store.{Store}
 use Rattle.object_store.specs.Access.{area_of, disk_of, journal_of, records_of}
-use Rattle.object_store.specs.Texts.{texts_of}
+use Rattle.object_store.specs.Bare.{bare_of}
+use Rattle.object_store.specs.Texts.{texts_of, AreRecords}
 use Rattle.node_jobs.specs.Disks.{Medium, IsLeftUnloaded, IsLoaded, IsUnloaded}
 use Rattle.node_jobs.proofs.Disks.{medium_of}
-use Rattle.check_job.specs.Checking.{IsFoundIn, IsUnwritten, found_in}
+use Rattle.xt_messages.specs.declared.record.Record.{Record}
+use Rattle.xt_messages.specs.declared.status.Status.{Status}
+use Rattle.check_job.specs.Reports.{compacted_size, report_lines, report_text, status_at, status_of}
+use Rattle.check_job.specs.Checking.{IsFoundIn, IsUnwritten, Reports, found_in}
+use Rattle.check_job.proofs.Bare.{report_same, status_same}
+use Rattle.check_job.proofs.Parts.{none_size}
 
 -- ---- where the journal ends
 
@@ -91,3 +97,35 @@ module _ {D : Type 0} (m : Medium D) (before chosen after : D) (same : IsTrue m.
 
   pub unwritten_unloaded : {said : _} → IsUnloaded m chosen after said → IsUnwritten m before after
   unwritten_unloaded is = unwritten is.each (λ told. left_same (m.kept after) told (is.left told))
+
+-- ---- the report
+
+-- no record is reported as the records of a store without any
+pub none_told : (limit : ℕ) (held later : Option (List ℕ)) (said : Status) → Reports (report_lines [] 13 limit 15) (status_at [] 13 limit) held later said
+    → Reports (report_text (record { records = []; long = 13; limit = limit })) (status_of (record { records = []; long = 13; limit = limit })) held later said
+none_told limit held later said told = subst (λ (n : ℕ). Reports (report_lines [] 13 limit n) (status_at [] 13 limit) held later said) (sym none_size) told
+
+pub none_are : AreRecords []
+none_are = record { fit = λ k d inside. absurd (omega (arith, inside)); placed = tt }
+
+module _ {D : Type 0} {g : Ghosts D} (store : Store D g) (limit : ℕ) (given : List Record) (area : Area) (compacted : ℕ) (bare : given ≡ bare_of (records_of store))
+    (is : area ≡ area_of store) (size : compacted ≡ compacted_size (records_of store)) where
+  all_text : report_lines given (area.place + area.length) limit compacted ≡ report_text (found_in store limit)
+  all_text =
+      ap (λ (rs : List Record). report_lines rs (area.place + area.length) limit compacted) bare
+      ∙ report_same (records_of store) (area.place + area.length) limit compacted
+      ∙ ap (λ (a : Area). report_lines (records_of store) (a.place + a.length) limit compacted) is
+      ∙ ap (λ (n : ℕ). report_lines (records_of store) ((area_of store).place + (area_of store).length) limit n) size
+
+  all_status : status_at given (area.place + area.length) limit ≡ status_of (found_in store limit)
+  all_status =
+      ap (λ (rs : List Record). status_at rs (area.place + area.length) limit) bare
+      ∙ status_same (records_of store) (area.place + area.length) limit
+      ∙ ap (λ (a : Area). status_at (records_of store) (a.place + a.length) limit) is
+
+  pub all_told : (held later : Option (List ℕ)) (said : Status)
+      → Reports (report_lines given (area.place + area.length) limit compacted) (status_at given (area.place + area.length) limit) held later said
+      → Reports (report_text (found_in store limit)) (status_of (found_in store limit)) held later said
+  all_told held later said told =
+      subst (λ (t : List ℕ). Reports t (status_of (found_in store limit)) held later said) all_text
+      (subst (λ (s : Status). Reports (report_lines given (area.place + area.length) limit compacted) s held later said) all_status told)
