@@ -1,9 +1,9 @@
 -- What a store has of its records in memory, without their bodies, is reported as they are.
 use Rattle.std.proofs.Common.{◌≡◌, ◌∙◌, ◌+◌, ◌++◌, ◌≤◌, ◌<◌, ℕ, Bool, true, false, List, [], ◌∷◌, length, codes, cond, refl, sym, ap, arith, length-append}
 use Rattle.std.specs.Prelude.{nat_lt, if◌then◌else◌}
-use Rattle.std.specs.List.{count_by}
 use Rattle.std.specs.Str.{bytes_eq}
 use Rattle.std.proofs.lemmas.Bool.Decides.{nat_tests}
+use Rattle.std.proofs.lemmas.List.Sums.{sum_by-cons}
 use Rattle.xt_base.specs.Faults.{counted}
 use Rattle.xt_base.specs.declared.ids.Boot.{Boot}
 use Rattle.xt_fields.specs.BasicFields.{byte_bytes, long_bytes}
@@ -24,9 +24,16 @@ kind_same =
     unseen (λ r s. kind_word r ≡ kind_word s) (λ file update body. refl) (λ file object version bytes body. refl)
     (λ file update body. refl) (λ file object version bytes body. refl) (λ r. refl) []
 
+is_of : List ℕ → Record → ℕ
+is_of word rec = cond (bytes_eq (kind_word rec) word) 1 0
+
 count_same : (word : List ℕ) (records : List Record) → count_of word (bare_of records) ≡ count_of word records
 count_same word [] = refl
-count_same word (rec ∷ records) = λ i. cond (bytes_eq (kind_same rec i) word) 1 0 + count_same word records i
+count_same word (rec ∷ records) =
+    sum_by-cons (is_of word) (bare rec) (bare_of records)
+    ∙ ap (λ (w : List ℕ). cond (bytes_eq w word) 1 0 + count_of word (bare_of records)) (kind_same rec)
+    ∙ ap (λ (n : ℕ). is_of word rec + n) (count_same word records)
+    ∙ sym (sum_by-cons (is_of word) rec records)
 
 lines_same : (records : List Record) (words : List (List ℕ)) → kind_lines (bare_of records) words ≡ kind_lines records words
 lines_same records [] = refl
@@ -47,7 +54,7 @@ report_same records long limit compacted = λ i.
 pub boot_length : (boot : Boot) → length (record_text (kept.Boot boot)) ≡ 9
 boot_length boot = length-append (byte_bytes 1) (long_bytes boot.0) ∙ ap (λ (n : ℕ). 1 + n) (long-length boot.0)
 
-status_by : ℕ → ℕ → Status
+pub status_by : ℕ → ℕ → Status
 status_by need limit = if nat_lt limit need then status.JournalFull need limit else status.Done
 
 pub need_is : (records : List Record) (long : ℕ) → need_at records long ≡ counted (long + 14)

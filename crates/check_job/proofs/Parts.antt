@@ -2,6 +2,7 @@
 use Rattle.std.proofs.Common.{◌≡◌, ◌∙◌, ◌+◌, ℕ, List, [], ◌∷◌, length, map, refl, sym, ap, arith, subst, length-append}
 use Rattle.std.specs.Prelude.{IsTrue}
 use Rattle.std.specs.List.{All, sum_by}
+use Rattle.std.proofs.lemmas.List.Sums.{sum_by-cons}
 use Rattle.disk_model.specs.declared.disk.Disk.{Ghosts}
 use Rattle.xt_base.specs.Faults.{counted}
 use Rattle.xt_messages.specs.declared.record.Record.{Record}
@@ -43,7 +44,7 @@ none_size = one_size (record_text (kept.Boot (record { 0 = 0 }))) (boot_length (
 
 parts_are : (records : List Copied) → sum_by area_part records + 1 ≡ size_of_area (map payload_of records)
 parts_are [] = refl
-parts_are (c ∷ records) = omega (arith, parts_are records)
+parts_are (c ∷ records) = omega (arith, parts_are records, sum_by-cons area_part c records)
 
 module _ {D : Type 0} {g : Ghosts D} (store : Store D g) (made : List Copied) (from : All (IsCopiedFrom (places_in store.log)) made)
     (known : List Record) (is : copied g.is_told (g.kept (disk_of store)).read made ≡ known) (are : AreRecords known) where
