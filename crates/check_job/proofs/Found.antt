@@ -1,6 +1,6 @@
 -- what is found in a store, and that nothing was written to it
-use Rattle.std.proofs.Common.{◌≡◌, ◌∙◌, ◌≤◌, ◌<◌, ◌+◌, ◌⊎◌, inl, inr, ⊎_elim, ℕ, Option, Some, None, List, [], length, refl, sym, ap, subst, arith}
-use Rattle.std.specs.Prelude.{IsTrue}
+use Rattle.std.proofs.Common.{◌≡◌, ◌∙◌, ◌≤◌, ◌<◌, ◌+◌, ◌⊎◌, inl, inr, ⊎_elim, ℕ, Bool, true, false, cond, Option, Some, None, List, [], length, refl, sym, ap, subst, arith}
+use Rattle.std.specs.Prelude.{IsTrue, nat_lt}
 use Rattle.disk_model.specs.declared.disk.Disk.{Ghosts}
 use Rattle.disk_model.specs.Disk.{Kept, IsImage, Elapses, LeavesOnly, at_rest}
 use Rattle.disk_model.proofs.Moments.{joined, unchanged}
@@ -16,11 +16,15 @@ use Rattle.object_store.specs.Access.{area_of, disk_of, journal_of, records_of}
 use Rattle.object_store.specs.Bare.{bare_of}
 use Rattle.object_store.specs.Texts.{texts_of, AreRecords}
 use Rattle.node_jobs.specs.Disks.{Medium, IsLeftUnloaded, IsLoaded, IsUnloaded}
-use Rattle.node_jobs.proofs.Disks.{medium_of}
+use Rattle.node_jobs.specs.Jobs.{HasSinkCause}
+use Rattle.node_jobs.proofs.Disks.{medium_of, reread}
+use Rattle.node_links.specs.Streams.{Puts}
+use Rattle.node_loop.specs.Events.{HasDiskCause}
 use Rattle.xt_messages.specs.declared.record.Record.{Record}
 use Rattle.xt_messages.specs.declared.status.Status.{Status}
-use Rattle.check_job.specs.Reports.{compacted_size, report_lines, report_text, status_at, status_of}
-use Rattle.check_job.specs.Checking.{IsFoundIn, IsUnwritten, Reports, found_in}
+use Rattle.xt_messages.specs.declared.status.Status.TheVariants as status
+use Rattle.check_job.specs.Reports.{compacted_size, need_at, report_lines, report_text, status_at, status_of}
+use Rattle.check_job.specs.Checking.{IsCheck, IsFoundIn, IsUnwritten, Reports, found_in}
 use Rattle.check_job.proofs.Bare.{report_same, status_same}
 use Rattle.check_job.proofs.Parts.{none_size}
 
@@ -98,7 +102,66 @@ module _ {D : Type 0} (m : Medium D) (before chosen after : D) (same : IsTrue m.
   pub unwritten_unloaded : {said : _} → IsUnloaded m chosen after said → IsUnwritten m before after
   unwritten_unloaded is = unwritten is.each (λ told. left_same (m.kept after) told (is.left told))
 
+-- ---- what is found
+
+module _ {D : Type 0} {g : Ghosts D} (before chosen : D) (same : IsTrue g.is_told → g.kept chosen ≡ g.kept before)
+    (choosing : IsTrue g.is_told → LeavesOnly g.moment g.left_since before chosen (IsImage (g.kept before)))
+    (faults : g.fault_count chosen ≡ g.fault_count before) (long : IsTrue g.is_told → 13 < length (g.kept before).read)
+    (limit : ℕ) (held later : Option (List ℕ)) (sink risen : ℕ) (said : Status) where
+  -- a store was loaded, and its report was put
+  pub finds_some : (store : Store D g) → IsLoaded (medium_of g) chosen limit store
+      → Reports (report_text (found_in store limit)) (status_of (found_in store limit)) held later said → HasSinkCause sink risen said
+      → IsCheck (medium_of g) limit before (disk_of store) held later sink risen said
+  finds_some store is reports cause = record {
+    finds = inr (record {
+      found = found_in store limit;
+      are = is.are;
+      room = refl;
+      stood = λ told. subst (λ (k : Kept). IsFoundIn k.read (found_in store limit)) (same told) (is_found store chosen limit is told);
+      reports = reports;
+      cause = cause;
+      disk_count = is.comes.faults ∙ faults;
+    });
+    unwritten = unwritten (medium_of g) before chosen (disk_of store) same choosing long is.comes.loads
+        (λ told. is.same told (long_there (medium_of g) before chosen (disk_of store) same choosing long told));
+  }
+
+  -- none was
+  pub finds_none : (after : D) → IsUnloaded (medium_of g) chosen after said → later ≡ held → risen ≡ sink
+      → IsCheck (medium_of g) limit before after held later sink risen said
+  finds_none after is quiet sink_count = record {
+    finds = inl (record {
+      why = reread g.is_told (g.kept before).read (g.kept chosen).read (λ told. ap (λ (k : Kept). k.read) (same told)) said is.why;
+      cause = subst (λ (n : ℕ). HasDiskCause n (g.fault_count after) said) faults is.cause;
+      quiet = quiet;
+      sink_count = sink_count;
+    });
+    unwritten = unwritten_unloaded (medium_of g) before chosen after same choosing long is;
+  }
+
 -- ---- the report
+
+put_with : (text : List ℕ) (need limit : ℕ) (held later : Option (List ℕ)) (b : Bool) → Puts held later text
+    → Reports text (cond b (status.JournalFull need limit) status.Done) held later (cond b (status.JournalFull need limit) status.Done)
+put_with text need limit held later true puts = (puts, refl)
+put_with text need limit held later false puts = (puts, refl)
+
+-- it was put whole
+pub put_whole : (text given : List ℕ) (records : List Record) (long limit : ℕ) (held later : Option (List ℕ)) (said : Status) → given ≡ text
+    → said ≡ status_at records long limit → Puts held later given → Reports text (status_at records long limit) held later said
+put_whole text given records long limit held later said is said_is puts =
+    subst (λ (s : Status). Reports text (status_at records long limit) held later s) (sym said_is)
+    (put_with text (need_at records long) limit held later (nat_lt limit (need_at records long)) (subst (λ (t : List ℕ). Puts held later t) is puts))
+
+sound_with : (before after need limit : ℕ) (b : Bool) → after ≡ before → HasSinkCause before after (cond b (status.JournalFull need limit) status.Done)
+sound_with before after need limit true same = same
+sound_with before after need limit false same = same
+
+pub put_sound : (before after : ℕ) (records : List Record) (long limit : ℕ) (said : Status) → said ≡ status_at records long limit → after ≡ before
+    → HasSinkCause before after said
+put_sound before after records long limit said said_is same =
+    subst (λ (s : Status). HasSinkCause before after s) (sym said_is)
+    (sound_with before after (need_at records long) limit (nat_lt limit (need_at records long)) same)
 
 -- no record is reported as the records of a store without any
 pub none_told : (limit : ℕ) (held later : Option (List ℕ)) (said : Status) → Reports (report_lines [] 13 limit 15) (status_at [] 13 limit) held later said

@@ -16,7 +16,7 @@ use Rattle.node_jobs.specs.Disks.{Medium, EndsUnloaded}
 use Rattle.node_jobs.specs.Jobs.{HasSinkCause}
 use Rattle.check_job.specs.Reports.{Found, report_text, status_of}
 
--- These bytes are a journal of the records that were found; or there are so few that they hold no record, and a start makes a new journal.
+-- These bytes are a journal of the records that were found; or there are too few for any record, and a start makes a new journal.
 abbrev pub IsFoundIn : List ℕ → Found → Type 0
 IsFoundIn bytes found =
     ((super : Option Superblock) × StandsIn super bytes (texts_of found.records) × (found.long ≡ end_in super (texts_of found.records) + 1))

@@ -73,7 +73,7 @@ fn tell<K: Sink>(
     let Ok(text) = report(alloc, records, long, limit, compacted) else {
         return Status::OutOfMemory;
     };
-    match put_all(out, text.as_str().as_bytes()) {
+    match put_all(out, text.as_bytes()) {
         Ok(()) => status_at(long, limit),
         Err(Failed) => Status::SinkFault {
             count: out.faults(),

@@ -64,7 +64,7 @@ fn push_line(alloc: Global, text: &mut String, word: &str, number: u64) -> Resul
     Ok(())
 }
 
-/// Appends the line of the kind with this word, of which there are so many records; nothing where there are none.
+/// Appends the line of the kind with this word, of which there are this many records; nothing where there are none.
 fn push_counted(alloc: Global, text: &mut String, word: &str, count: u64) -> Result<(), OutOfMemory>
     ensures { OnOk result (string_bytes text.new ≡
         string_bytes text.old ++ spec.counted_line word.now count) }

@@ -1,8 +1,8 @@
-use Rattle.std.proofs.Common.{◌≡◌, ◌∙◌, ◌≤◌, ◌<◌, [], ap, inl, inr, length, refl, rules, subst, sym}
+use Rattle.std.proofs.Common.{◌≤◌, ◌<◌, [], inr, length, refl, rules, subst, sym}
 use Rattle.std.specs.Prelude.{IsTrue}
-use Rattle.object_store.specs.Access.{disk_of}
 use Rattle.node_jobs.proofs.Disks.{medium_of}
-use Rattle.check_job.proofs.Found.{is_found, none_are, none_told, unwritten, unwritten_chosen}
+use Rattle.check_job.specs.Checking.{IsCheck}
+use Rattle.check_job.proofs.Found.{finds_some, none_are, none_told, unwritten_chosen}
 use Rattle.check_job.proofs.checking.check_store.Goals as goal
 
 pub returns-in-Ok-2 : goal.returns-in-Ok-2
@@ -21,3 +21,16 @@ returns-in-Ok-2 g c =
       });
       unwritten = unwritten_chosen (medium_of D) c.args.disk c.opened.new.disk c.opened.ensures.same c.opened.ensures.each;
     }
+
+pub returns-in-Ok-loaded : goal.returns-in-Ok-loaded
+returns-in-Ok-loaded g c =
+    let D = g.D.Disk in
+    let K = g.K.Sink in
+    let long : IsTrue D.is_told → 13 < length (D.kept c.args.disk).read = search rules in
+    subst
+    (λ d. IsCheck (medium_of D) c.args.limit c.args.disk d (K.held c.args.out.now) (K.held c.tell_of.new.out) (K.fault_count c.args.out.now)
+    (K.fault_count c.tell_of.new.out) c.tell_of.result)
+    (sym c.close.ensures)
+    (finds_some {g = D} c.args.disk c.opened.new.disk c.opened.ensures.same c.opened.ensures.each c.in-Ok.ensures.count long c.args.limit
+    (K.held c.args.out.now) (K.held c.tell_of.new.out) (K.fault_count c.args.out.now) (K.fault_count c.tell_of.new.out) c.tell_of.result
+    c.in-Ok-loaded.store c.in-Ok-loaded.ensures c.tell_of.ensures.reports c.tell_of.ensures.cause)
