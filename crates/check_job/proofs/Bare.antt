@@ -24,7 +24,7 @@ kind_same =
     unseen (λ r s. kind_word r ≡ kind_word s) (λ file update body. refl) (λ file object version bytes body. refl)
     (λ file update body. refl) (λ file object version bytes body. refl) (λ r. refl) []
 
-is_of : List ℕ → Record → ℕ
+abbrev is_of : List ℕ → Record → ℕ
 is_of word rec = cond (bytes_eq (kind_word rec) word) 1 0
 
 count_same : (word : List ℕ) (records : List Record) → count_of word (bare_of records) ≡ count_of word records
@@ -54,7 +54,7 @@ report_same records long limit compacted = λ i.
 pub boot_length : (boot : Boot) → length (record_text (kept.Boot boot)) ≡ 9
 boot_length boot = length-append (byte_bytes 1) (long_bytes boot.0) ∙ ap (λ (n : ℕ). 1 + n) (long-length boot.0)
 
-pub status_by : ℕ → ℕ → Status
+abbrev pub status_by : ℕ → ℕ → Status
 status_by need limit = if nat_lt limit need then status.JournalFull need limit else status.Done
 
 pub need_is : (records : List Record) (long : ℕ) → need_at records long ≡ counted (long + 14)

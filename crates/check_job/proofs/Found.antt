@@ -104,7 +104,7 @@ module _ {D : Type 0} (m : Medium D) (before chosen after : D) (same : IsTrue m.
 
 -- ---- what is found
 
-module _ {D : Type 0} {g : Ghosts D} (before chosen : D) (same : IsTrue g.is_told → g.kept chosen ≡ g.kept before)
+module _ {D : Type 0} (g : Ghosts D) (before chosen : D) (same : IsTrue g.is_told → g.kept chosen ≡ g.kept before)
     (choosing : IsTrue g.is_told → LeavesOnly g.moment g.left_since before chosen (IsImage (g.kept before)))
     (faults : g.fault_count chosen ≡ g.fault_count before) (long : IsTrue g.is_told → 13 < length (g.kept before).read)
     (limit : ℕ) (held later : Option (List ℕ)) (sink risen : ℕ) (said : Status) where

@@ -12,3 +12,7 @@ ends old new piece is = is ∙ ap (λ (p : List ℕ). old ++ p) (sym (append-nil
 -- a text that was empty
 pub from_none : (old final rest : List ℕ) → old ≡ [] → final ≡ old ++ rest → final ≡ rest
 from_none old final rest none all = all ∙ ap (λ (t : List ℕ). t ++ rest) none
+
+-- one piece more, after a text that is known
+pub after : (old new piece text : List ℕ) → new ≡ old ++ piece → old ≡ text → new ≡ text ++ piece
+after old new piece text more is = more ∙ ap (λ (t : List ℕ). t ++ piece) is

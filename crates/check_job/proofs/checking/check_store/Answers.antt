@@ -28,9 +28,9 @@ returns-in-Ok-loaded g c =
     let K = g.K.Sink in
     let long : IsTrue D.is_told → 13 < length (D.kept c.args.disk).read = search rules in
     subst
-    (λ d. IsCheck (medium_of D) c.args.limit c.args.disk d (K.held c.args.out.now) (K.held c.tell_of.new.out) (K.fault_count c.args.out.now)
-    (K.fault_count c.tell_of.new.out) c.tell_of.result)
+    (λ d. IsCheck (medium_of D) c.args.limit c.args.disk d (K.held c.args.out.now) (K.held c.tell_of-status.new.out) (K.fault_count c.args.out.now)
+    (K.fault_count c.tell_of-status.new.out) c.tell_of-status.result)
     (sym c.close.ensures)
-    (finds_some {g = D} c.args.disk c.opened.new.disk c.opened.ensures.same c.opened.ensures.each c.in-Ok.ensures.count long c.args.limit
-    (K.held c.args.out.now) (K.held c.tell_of.new.out) (K.fault_count c.args.out.now) (K.fault_count c.tell_of.new.out) c.tell_of.result
-    c.in-Ok-loaded.store c.in-Ok-loaded.ensures c.tell_of.ensures.reports c.tell_of.ensures.cause)
+    (finds_some D c.args.disk c.opened.new.disk c.opened.ensures.same c.opened.ensures.each c.in-Ok.ensures.count long c.args.limit
+    (K.held c.args.out.now) (K.held c.tell_of-status.new.out) (K.fault_count c.args.out.now) (K.fault_count c.tell_of-status.new.out) c.tell_of-status.result
+    c.in-Ok-loaded.store c.in-Ok-loaded.ensures.loads c.tell_of-status.ensures.reports c.tell_of-status.ensures.cause)
