@@ -1,9 +1,9 @@
 -- what is found in a store, and that nothing was written to it
-use Rattle.std.proofs.Common.{◌≡◌, ◌∙◌, ◌≤◌, ◌<◌, ◌+◌, ◌⊎◌, inl, inr, ⊎_elim, ℕ, Bool, true, false, cond, Option, Some, None, List, [], length, refl, sym, ap, subst, arith}
+use Rattle.std.proofs.Common.{◌≡◌, ◌∙◌, ◌≤◌, ◌<◌, ◌+◌, inl, inr, ⊎_elim, ℕ, Bool, true, false, cond, Option, Some, None, List, [], length, refl, sym, ap, subst, arith}
 use Rattle.std.specs.Prelude.{IsTrue, nat_lt}
 use Rattle.disk_model.specs.declared.disk.Disk.{Ghosts}
-use Rattle.disk_model.specs.Disk.{Kept, IsImage, Elapses, LeavesOnly, at_rest}
-use Rattle.disk_model.proofs.Moments.{joined, unchanged}
+use Rattle.disk_model.specs.Disk.{Kept, IsImage, LeavesOnly}
+use Rattle.disk_model.proofs.Moments.{joined}
 use Rattle.journal_areas.specs.declared.site.Area.{Area}
 use Rattle.journal_areas.specs.declared.superblock.Slot.{Slot}
 use Rattle.journal_areas.specs.Sites.{area_by, slot_of}
@@ -17,9 +17,8 @@ use Rattle.object_store.specs.Bare.{bare_of}
 use Rattle.object_store.specs.Texts.{texts_of, AreRecords}
 use Rattle.node_jobs.specs.Disks.{Medium, IsLeftUnloaded, IsLoaded, IsUnloaded}
 use Rattle.node_jobs.specs.Jobs.{HasSinkCause}
-use Rattle.node_jobs.proofs.Disks.{medium_of, reread}
+use Rattle.node_jobs.proofs.Disks.{medium_of}
 use Rattle.node_links.specs.Streams.{Puts}
-use Rattle.node_loop.specs.Events.{HasDiskCause}
 use Rattle.xt_messages.specs.declared.record.Record.{Record}
 use Rattle.xt_messages.specs.declared.status.Status.{Status}
 use Rattle.xt_messages.specs.declared.status.Status.TheVariants as status
@@ -44,26 +43,6 @@ module _ {D : Type 0} {g : Ghosts D} (store : Store D g) where
       let place : place_of (journal_of store) ≡ end_in super (texts_of (records_of store)) =
       place_of_end super (g.kept (disk_of store)) (place_of (journal_of store)) (texts_of (records_of store)) ((journal_of store).ends told) (store.keeps told) in
       inl (super, is.stood told, long_is ∙ ap (λ (n : ℕ). n + 1) place)
-
--- ---- the file is chosen, and its length is read
-
-module _ {D : Type 0} (g : Ghosts D)
-    (only_now : (disk : D) (image : List ℕ) → IsTrue g.is_told → g.left_since disk (g.moment disk) image → IsImage (g.kept disk) image) where
-  -- a call that leaves what is kept
-  pub one_call : (old new : D) → (IsTrue g.is_told → g.kept new ≡ g.kept old)
-      → (IsTrue g.is_told → Elapses (g.moment old) (g.moment new) (g.left_since old) (g.left_since new) (g.kept new))
-      → IsTrue g.is_told → LeavesOnly g.moment g.left_since old new (IsImage (g.kept old))
-  one_call old new same time told =
-      unchanged g.moment g.left_since old new (g.kept old) (g.kept new) (same told) (λ image left. only_now old image told left) (time told)
-
-  -- and one more
-  pub two_calls : (old mid new : D) → (IsTrue g.is_told → g.kept mid ≡ g.kept old) → (IsTrue g.is_told → g.kept new ≡ g.kept mid)
-      → (IsTrue g.is_told → Elapses (g.moment old) (g.moment mid) (g.left_since old) (g.left_since mid) (g.kept mid))
-      → (IsTrue g.is_told → Elapses (g.moment mid) (g.moment new) (g.left_since mid) (g.left_since new) (g.kept new))
-      → IsTrue g.is_told → LeavesOnly g.moment g.left_since old new (IsImage (g.kept old))
-  two_calls old mid new same again first second told =
-      joined g.moment g.left_since old mid new (IsImage (g.kept old)) (IsImage (g.kept mid)) (IsImage (g.kept old)) (one_call old mid same first told)
-      (one_call mid new again second told) (λ image was. was) (λ image was. subst (λ (k : Kept). IsImage k image) (same told) was)
 
 -- ---- nothing was written
 
@@ -124,19 +103,6 @@ module _ {D : Type 0} (g : Ghosts D) (before chosen : D) (same : IsTrue g.is_tol
     });
     unwritten = unwritten (medium_of g) before chosen (disk_of store) same choosing long is.comes.loads
         (λ told. is.same told (long_there (medium_of g) before chosen (disk_of store) same choosing long told));
-  }
-
-  -- none was
-  pub finds_none : (after : D) → IsUnloaded (medium_of g) chosen after said → later ≡ held → risen ≡ sink
-      → IsCheck (medium_of g) limit before after held later sink risen said
-  finds_none after is quiet sink_count = record {
-    finds = inl (record {
-      why = reread g.is_told (g.kept before).read (g.kept chosen).read (λ told. ap (λ (k : Kept). k.read) (same told)) said is.why;
-      cause = subst (λ (n : ℕ). HasDiskCause n (g.fault_count after) said) faults is.cause;
-      quiet = quiet;
-      sink_count = sink_count;
-    });
-    unwritten = unwritten_unloaded (medium_of g) before chosen after same choosing long is;
   }
 
 -- ---- the report

@@ -1,6 +1,5 @@
 -- how long an area is of the records that a compaction makes
 use Rattle.std.proofs.Common.{◌≡◌, ◌∙◌, ◌+◌, ℕ, List, [], ◌∷◌, length, map, refl, sym, ap, arith, subst, length-append}
-use Rattle.std.specs.Prelude.{IsTrue}
 use Rattle.std.specs.List.{All, sum_by}
 use Rattle.std.proofs.lemmas.List.Sums.{sum_by-cons}
 use Rattle.disk_model.specs.declared.disk.Disk.{Ghosts}
@@ -16,17 +15,17 @@ use Rattle.replica_records.specs.RecordText.{record_text}
 use Rattle.journal_areas.specs.Format.{record_of, records}
 use Rattle.journal_areas.specs.Sites.{area_size}
 use Rattle.journal_areas.proofs.Records.{length-record}
-use Rattle.journal_moves.specs.Gathering.{gathered, size_of_area}
+use Rattle.journal_moves.specs.Gathering.{size_of_area}
 use Rattle.journal_moves.proofs.Areas.{all_in, size_area}
 use Rattle.object_store.specs.declared.copied.Copied.{Copied}
 use Rattle.object_store.specs.declared.store.Store.{Store}
 use Rattle.object_store.specs.Bare.{bare_of}
-use Rattle.object_store.specs.Access.{area_of, disk_of, records_of}
+use Rattle.object_store.specs.Access.{area_of, disk_of}
 use Rattle.object_store.specs.Copying.{IsCopiedFrom, copied}
 use Rattle.object_store.specs.Logs.{places_in}
 use Rattle.object_store.specs.Swapping.{FitsCopied, payload_of}
 use Rattle.object_store.specs.Swaps.{size_of}
-use Rattle.object_store.specs.Texts.{texts_of, AreRecords}
+use Rattle.object_store.specs.Texts.{AreRecords}
 use Rattle.object_store.proofs.BareFolds.{fold_bare}
 use Rattle.object_store.proofs.Copies.{fit, there, whole}
 use Rattle.object_store.proofs.Copying.{gathered_texts}

@@ -41,7 +41,7 @@ abbrev pub medium_of : {D : Type 0} → Ghosts D → Medium D
 medium_of g = record { is_told = g.is_told; kept = g.kept; moment = g.moment; left_since = g.left_since; fault_count = g.fault_count }
 
 -- why no records are loaded from a disk, where it is known that it reads the same bytes
-pub reread : (is_told : Bool) (bytes same : List ℕ) → (IsTrue is_told → same ≡ bytes) → (said : Status)
+reread : (is_told : Bool) (bytes same : List ℕ) → (IsTrue is_told → same ≡ bytes) → (said : Status)
     → EndsUnloaded is_told same said → EndsUnloaded is_told bytes said
 reread is_told bytes same is (status.NotOurs first) why = λ told. subst (λ (b : List ℕ). IsTheReading b (Foreign first)) (is told) (why told)
 reread is_told bytes same is (status.Layout version) why = λ told. subst (λ (b : List ℕ). IsTheReading b (Unknown version)) (is told) (why told)
