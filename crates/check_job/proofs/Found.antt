@@ -15,7 +15,7 @@ use Rattle.object_store.specs.declared.store.Store.{Store}
 use Rattle.object_store.specs.Access.{area_of, disk_of, journal_of, records_of}
 use Rattle.object_store.specs.Bare.{bare_of}
 use Rattle.object_store.specs.Texts.{texts_of, AreRecords}
-use Rattle.node_jobs.specs.Disks.{Medium, IsLeftUnloaded, IsLoaded, IsUnloaded}
+use Rattle.node_jobs.specs.Disks.{Medium, IsLoaded}
 use Rattle.node_jobs.specs.Jobs.{HasSinkCause}
 use Rattle.node_jobs.proofs.Disks.{medium_of}
 use Rattle.node_links.specs.Streams.{Puts}
@@ -69,17 +69,6 @@ module _ {D : Type 0} (m : Medium D) (before chosen after : D) (same : IsTrue m.
         joined m.moment m.left_since before chosen after (IsImage (m.kept before)) (LeavesAsBefore (m.kept chosen)) (IsImage (m.kept before))
         (choosing told) (loads told) (λ image was. was) (as_before told);
   }
-
-  left_same : (new : Kept) → IsTrue m.is_told → IsLeftUnloaded (m.kept chosen) new → new.read ≡ (m.kept chosen).read
-  left_same new told left =
-      ⊎_elim
-      (λ disk. ⊎_elim (λ is. ap (λ (k : Kept). k.read) is)
-      (λ settled. ⊎_elim (λ is. ap (λ (k : Kept). k.read) is) (λ unready. absurd (omega (arith, unready.0.0, long_there told))) settled) disk)
-      (λ short. absurd (omega (arith, short.0, long_there told)))
-      left
-
-  pub unwritten_unloaded : {said : _} → IsUnloaded m chosen after said → IsUnwritten m before after
-  unwritten_unloaded is = unwritten is.each (λ told. left_same (m.kept after) told (is.left told))
 
 -- ---- what is found
 
