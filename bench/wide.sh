@@ -1,6 +1,6 @@
 #!/usr/bin/env bash
 # A file of 2 GiB, striped over five OSDs: the DIR, the MRC and the OSDs are processes of the built program on the loopback. (A store has at
-# most 1 GiB, of which an OSD fills about half before a compaction finds no room: three or four would be full.)
+# most 1 GiB, of which an OSD fills about half before a compaction finds no room: three of them are full before the file ends.)
 #   bench/wide.sh [PROGRAM]
 # Prints how long its put and its get took, how long each OSD's store is then, and its greatest resident memory. What is read is compared
 # with what was written. Needs 3 GiB of room for temporary files; ends by itself, in a minute or two.
