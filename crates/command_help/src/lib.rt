@@ -1,6 +1,7 @@
 //! What helps a person with the words of a command line: how commands are called, what is wrong with words that were refused, which
-//! options may come from the environment, and whose a store is. Nothing here is part of what the program promises for its words: the
-//! texts go to standard error, options from the environment are words before `run` sees them, and a node on another's store isn't begun.
+//! options may come from the environment, whose a store is, and which one is checked. Nothing here is part of what the program promises for
+//! its words: the texts go to standard error, options from the environment are words before `run` sees them, a node on another's store
+//! isn't begun, and neither is the check of a store that can't be opened.
 #![tactic(auto)]
 
 mod faults;
@@ -14,7 +15,7 @@ use command_words::program;
 use faults::fault_in;
 pub use repeated::{Repeated, options_missing};
 use std::alloc::{AllocError, Global};
-pub use stores::{StoreOwner, store_owner};
+pub use stores::{StoreOwner, StoreUse, store_use};
 use xt_base::{Name, OutOfMemory, Words};
 
 /// What stands in the first line of `xtfs --version`.

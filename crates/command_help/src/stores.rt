@@ -1,4 +1,4 @@
-//! Whose a store is: a small file beside it says so.
+//! Whose a store is: a small file beside it says so. And which store is checked.
 
 use crate::texts_of;
 use clap::ArgMatches;
@@ -52,20 +52,54 @@ fn owner_in(
     }
 }
 
-/// What stands beside the store of the node that these words start; none where they start no node.
-pub fn store_owner(alloc: Global, words: &Words) -> Result<Option<StoreOwner>, OutOfMemory> {
+/// The path of the store that the command checks; none for a command that checks none.
+fn checked_in(
+    alloc: Global,
+    name: &str,
+    found: &ArgMatches<'_>,
+) -> Result<Option<String>, OutOfMemory> {
+    match found.get_str("store") {
+        Some(store) if name == "check" => Ok(Some(String::from_str(alloc, store)?)),
+        _ => Ok(None),
+    }
+}
+
+/// What these words do to a store.
+#[derive(Drop)]
+pub enum StoreUse {
+    /// They start a node: this stands beside its store.
+    Owned(StoreOwner),
+    /// They check the store at this path.
+    Checked(String),
+    /// Neither.
+    Unused,
+}
+
+/// What a command does to a store.
+fn use_in(alloc: Global, name: &str, found: &ArgMatches<'_>) -> Result<StoreUse, OutOfMemory> {
+    if let Some(path) = checked_in(alloc, name, found)? {
+        return Ok(StoreUse::Checked(path));
+    }
+    match owner_in(alloc, name, found)? {
+        Some(owner) => Ok(StoreUse::Owned(owner)),
+        None => Ok(StoreUse::Unused),
+    }
+}
+
+/// What these words do to a store.
+pub fn store_use(alloc: Global, words: &Words) -> Result<StoreUse, OutOfMemory> {
     let texts = texts_of(alloc, words.as_slice())?;
     let all = program(alloc, false)?;
     match all.try_get_matches_from(texts.as_slice()) {
         Ok(found) => match found.subcommand() {
-            Some((name, inner)) => owner_in(alloc, name, inner),
-            None => Ok(None),
+            Some((name, inner)) => use_in(alloc, name, inner),
+            None => Ok(StoreUse::Unused),
         },
         Err(error) => {
             if error.kind() == ErrorKind::OutOfMemory {
                 Err(AllocError)
             } else {
-                Ok(None)
+                Ok(StoreUse::Unused)
             }
         }
     }

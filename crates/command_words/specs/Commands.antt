@@ -104,6 +104,9 @@ dir_app =
     (needed_or_free true (codes "listen")
     (plain_app (codes "dir")))))
 
+unfoldable pub check_app : App
+check_app = needed_or_free false (codes "limit") (needed_or_free true (codes "store") (plain_app (codes "check")))
+
 unfoldable pub cluster_app : App
 cluster_app =
     own_options
@@ -186,7 +189,7 @@ unfoldable pub with_runs : App → App
 with_runs all = joined (joined (joined all (replay_app)) (audit_app)) (make_app)
 
 unfoldable pub with_nodes : App → App
-with_nodes all = joined (joined (joined (joined all (osd_app)) (mrc_app)) (dir_app)) (cluster_app)
+with_nodes all = joined (joined (joined (joined (joined all (osd_app)) (mrc_app)) (dir_app)) (cluster_app)) (check_app)
 
 unfoldable pub with_registry_commands : Bool → App → App
 with_registry_commands inside all =

@@ -257,6 +257,10 @@ mrc_of base rows = option_and_then (λ directory. option_map (λ serving. job.Mr
 unfoldable pub dir_of : Settings → Rows → Option Job
 dir_of base rows = option_map (λ serving. job.Dir serving) (serving_of base rows)
 
+unfoldable pub check_of : Settings → Rows → Option Job
+check_of base rows = option_and_then (λ limit. option_map (λ store. job.Check store limit)
+    (path_at (codes "store") rows)) (number_or_at 1 1073741824 base.limit (codes "limit") rows)
+
 -- the options that were given, for the children
 unfoldable pub given_of : Rows → Given
 given_of rows = record {
@@ -292,6 +296,7 @@ node_job base inside name rows =
     else if named (codes "mrc") name then mrc_of base.settings rows
     else if named (codes "dir") name then dir_of base.settings rows
     else if named (codes "cluster") name then cluster_of base rows
+    else if named (codes "check") name then check_of base.settings rows
     else option_map (λ client. job.Client client) (client_of base inside name rows)
 
 unfoldable pub job_in : Defaults → Bool → Text → Rows → Option Job

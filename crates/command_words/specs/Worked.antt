@@ -52,6 +52,8 @@ in_range =
     codes "mrc --listen 127.0.0.1:7401 --dir 127.0.0.1:7400 --store s901 --key 00ff --lease 2000 --drift 999" ∷
     codes "dir --listen 127.0.0.1:7400 --store s900 --key 00ff --turns 1 --limit 1" ∷
     codes "cluster --osds 50 --port 65000 --store s --key 00ff" ∷
+    codes "check --store s" ∷
+    codes "check --limit 1073741824 --store s" ∷
     codes "register 4294967295 2 127.0.0.1:7401 --dir 127.0.0.1:7400" ∷
     codes "unregister 4294967295 --dir 127.0.0.1:7400" ∷
     codes "nodes --dir 127.0.0.1:7400 --tries 1" ∷
@@ -132,6 +134,11 @@ out_of_range =
     codes "cluster --osds 1 --port 0 --store s --key 00ff" ∷
     codes "cluster --osds 1 --port 65001 --store s --key 00ff" ∷
     codes "cluster --osds 1 --port 1 --store s" ∷
+    codes "check" ∷
+    codes "check s" ∷
+    codes "check --store s --limit 0" ∷
+    codes "check --store s --limit 1073741825" ∷
+    codes "check --store s --key 00ff" ∷
     codes "register 4294967296 1 a --dir 127.0.0.1:7400" ∷
     codes "register 0 1 a --dir 127.0.0.1:7400" ∷
     codes "register 900 1 a --dir 127.0.0.1:7400" ∷
@@ -176,6 +183,7 @@ out_of_range =
 abbrev pub lines_out_of_range : List Text
 lines_out_of_range =
     codes "replay" ∷
+    codes "check --store s" ∷
     codes "unregister 900" ∷
     codes "nodes --dir 127.0.0.1:7400" ∷
     codes "put /a" ∷
@@ -196,6 +204,9 @@ IsMv = asked false (codes "mv --dir 127.0.0.1:7400 /a --tries=3 /b") ≡ Some (j
   key = None;
   order = order.Mv (codes "/a") (codes "/b");
 }))
+
+abbrev pub IsChecked : Type 0
+IsChecked = asked false (codes "check --limit 4096 --store s7") ≡ Some (job.Check (codes "s7") 4096)
 
 abbrev pub IsPut : Type 0
 IsPut = asked true (codes "put /a --pattern 10 --striped 3 --key 00ff") ≡ Some (job.Client (record {

@@ -165,6 +165,11 @@ pub enum Job {
     Dir {
         serving: Serving,
     },
+    /// The path of a store, at most 65,535 bytes, and how many bytes its journal may have, up to 2^30.
+    Check {
+        store: Name,
+        limit: u64,
+    },
     Cluster(ClusterJob),
     Client(ClientJob),
 }

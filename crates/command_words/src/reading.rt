@@ -2,7 +2,7 @@
 
 ghost use Rattle.std.specs.Prelude.{◌≡◌, ◌≤◌, IfSome, IfOk, codes, option_map};
 ghost use Rattle.clap.specs.Words.{first_of, subcommand_rows_of};
-ghost use Rattle.command_words.specs.Jobs.{rows_in, number_at, number_or_at, number_if_at, node_at, node_or_at, path_at, address_at, mode_at, settings_of, who_of, registered_at, register_of, unregister_of, mv_of, chmod_of, mkdir_of, rmdir_of, rm_of, ls_of, stat_of, flag_at, key_at, key_if_at, layout_at, stripe_at, pattern_at, put_of, range_at, get_of, truncate_of, file_order, tree_order, order_of, directory_at, client_of, serving_of, make_of, osd_of, mrc_of, dir_of, given_of, cluster_of, node_job, job_in, chosen_in};
+ghost use Rattle.command_words.specs.Jobs.{rows_in, number_at, number_or_at, number_if_at, node_at, node_or_at, path_at, address_at, mode_at, settings_of, who_of, registered_at, register_of, unregister_of, mv_of, chmod_of, mkdir_of, rmdir_of, rm_of, ls_of, stat_of, flag_at, key_at, key_if_at, layout_at, stripe_at, pattern_at, put_of, range_at, get_of, truncate_of, file_order, tree_order, order_of, directory_at, client_of, serving_of, make_of, osd_of, mrc_of, dir_of, check_of, given_of, cluster_of, node_job, job_in, chosen_in};
 ghost use Rattle.std.specs.Str.{bytes_eq};
 
 use crate::job::{
@@ -695,6 +695,24 @@ fn dir_of(
     }
 }
 
+/// `check`
+#[tactic(auto, unfolding(crate::specs::Jobs::check_of))]
+fn check_of(
+    alloc: Global,
+    base: &Settings,
+    found: &ArgMatches<'_>,
+) -> Result<Option<Job>, OutOfMemory>
+    ensures { IfOk result (λ made. made ≡ check_of base.now (rows_in found.now)) }
+{
+    let Some(limit) = number_or_at(found, "limit", 1, 1_073_741_824, base.limit) else {
+        return Ok(None);
+    };
+    match path_at(alloc, found, "store")? {
+        Some(store) => Ok(Some(Job::Check { store, limit })),
+        None => Ok(None),
+    }
+}
+
 /// The options that were given, for the children.
 #[tactic(auto, unfolding(crate::specs::Jobs::given_of))]
 fn given_of(found: &ArgMatches<'_>) -> Given
@@ -747,7 +765,7 @@ fn cluster_of(
     }
 }
 
-/// A node, a cluster or a client.
+/// A node, a cluster, a check or a client.
 #[tactic(auto, unfolding(crate::specs::Jobs::node_job))]
 fn node_job(
     alloc: Global,
@@ -766,6 +784,8 @@ fn node_job(
         dir_of(alloc, &base.settings, found)
     } else if is_word(name, "cluster") {
         cluster_of(alloc, base, found)
+    } else if is_word(name, "check") {
+        check_of(alloc, &base.settings, found)
     } else {
         match client_of(alloc, base, inside, name, found)? {
             Some(client) => Ok(Some(Job::Client(client))),

@@ -109,6 +109,7 @@ module _ {D : Type 0} (m : Medium D) where
           kept = is.comes.kept;
           faults = is.comes.faults ∙ faults;
         };
+        same = λ told. subst (λ (k : Kept). 13 < length k.read → (m.kept (disk_of store)).read ≡ k.read) (same told) (is.same told);
       }
 
   -- ---- records were given, and others after them
@@ -170,8 +171,10 @@ module _ {D : Type 0} {g : Ghosts D}
       → (IsTrue g.is_told → IsTheReading (g.kept before).read (Stands placed)) → (IsTrue g.is_told → payloads ≡ payloads_of placed) → limit_of from ≡ limit
       → (IsTrue g.is_told → StandsIn (superblock_of from) (g.kept before).read (payloads_of placed))
       → (IsTrue g.is_told → LeavesOnly g.moment g.left_since before (journal.disk_of from) (LeavesAsBefore (g.kept before)))
-      → g.fault_count (journal.disk_of from) ≡ g.fault_count before → IsLoadOf from payloads (Ok store) → IsLoaded (medium_of g) before limit store
-  loaded_is before limit from placed payloads store reads are room stood loads faults is =
+      → g.fault_count (journal.disk_of from) ≡ g.fault_count before
+      → (IsTrue g.is_told → 13 < length (g.kept before).read → (g.kept (journal.disk_of from)).read ≡ (g.kept before).read)
+      → IsLoadOf from payloads (Ok store) → IsLoaded (medium_of g) before limit store
+  loaded_is before limit from placed payloads store reads are room stood loads faults same is =
       let there : IsTrue g.is_told → texts_of (records_of store) ≡ payloads_of placed =
       λ told. ap texts_of (is.known ∙ known_there g.is_told is.records told) ∙ is.texts ∙ are told in
       record {
@@ -187,6 +190,7 @@ module _ {D : Type 0} {g : Ghosts D}
           kept = keeps_now g.is_told g.kept g.moment g.left_since (disk_of store) (records_of store) store.keeps (λ image told left. only_now (disk_of store) image told left);
           faults = ap (λ (j : Journal D g). g.fault_count (journal.disk_of j)) is.journal_is ∙ faults;
         };
+        same = λ told long. ap (λ (j : Journal D g). (g.kept (journal.disk_of j)).read) is.journal_is ∙ same told long;
       }
 
 -- where the records of a loaded store are on the disk, once that of its boot was put

@@ -1,5 +1,5 @@
 -- what a node does to its disk before it serves, and what it leaves on it in the end
-use Rattle.std.specs.Prelude.{ℕ, ◌≡◌, ◌≤◌, ◌⊎◌, Bool, IsTrue, Option, Some, None, List, [], ◌∷◌, ◌+◌, length, get_or}
+use Rattle.std.specs.Prelude.{ℕ, ◌≡◌, ◌≤◌, ◌<◌, ◌⊎◌, Bool, IsTrue, Option, Some, None, List, [], ◌∷◌, ◌+◌, length, get_or}
 use Rattle.disk_model.specs.declared.disk.Disk.{Ghosts}
 use Rattle.disk_model.specs.Disk.{Kept, IsImage, LeavesOnly, at_rest}
 use Rattle.xt_base.specs.declared.ids.Boot.{Boot}
@@ -161,6 +161,8 @@ module _ {D : Type 0} (m : Medium D) where
       pub room : limit_of (journal_in store) ≡ limit
       pub stood : IsTrue m.is_told → StandsIn (superblock_of (journal_in store)) (m.kept before).read (texts_of (records_of store))
       pub comes : ComesFrom before (disk_of store) (records_of store)
+      -- a read of a file that may hold a record gives what it gave before
+      pub same : IsTrue m.is_told → 13 < length (m.kept before).read → (m.kept (disk_of store)).read ≡ (m.kept before).read
 
     -- the record of the next boot was put
     pub record IsBooted (old new : Store D g) (boot : Boot) : Type 0 where

@@ -10,5 +10,6 @@ mod readiness;
 mod starting;
 
 pub use directory::serve_directory;
+pub use loading::{loaded, stored_boot};
 pub use metadata::serve_metadata;
 pub use osd::serve_osd;

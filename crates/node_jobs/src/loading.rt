@@ -79,7 +79,7 @@ fn boot_after(boot: u64, rec: &Record) -> u64
 }
 
 /// The last boot of these records, or 0.
-fn stored_boot(records: &[Record]) -> u64
+pub fn stored_boot(records: &[Record]) -> u64
     ensures { result ≡ stored_boot records.now }
 {
     let mut boot = 0;

@@ -1,15 +1,17 @@
-//! `xtfs`: replays a schedule, judges a trace, serves a node, carries out a client command, or does all that a cluster is, as the words of
-//! the command line ask.
+//! `xtfs`: replays a schedule, judges a trace, serves a node, checks a store, carries out a client command, or does all that a cluster is,
+//! as the words of the command line ask.
 //!
 //! `main` makes what stands for the standard streams, a socket, a file, the clock of this machine and its processes, and ends with the status
 //! of `xtfs_run::run`, which does all that the program does. Where the words of the command line are refused, standard error says which
-//! of them and why, and how that command is called. A node isn't started on a store that is another node's by the file beside it.
+//! of them and why, and how that command is called. A node isn't started on a store that is another node's by the file beside it, and a
+//! store that isn't there isn't made in order to be checked.
 #![tactic(auto)]
 
-use command_help::{StoreOwner, options_missing, store_owner, told};
+use command_help::{StoreOwner, StoreUse, options_missing, store_use, told};
 use disk_model::FileDisk;
 use node_links::{ChildSpawner, StdinSource, StdoutSink, SystemClock, UdpLink};
 use std::alloc::Global;
+use std::fs::File;
 use std::io::{self, ErrorKind};
 use std::process::ExitCode;
 use std::{env, fs};
@@ -72,12 +74,29 @@ fn is_anothers(rt: &HostRuntime, owner: &StoreOwner) -> io::Result<bool> {
     }
 }
 
-/// Whether these words start a node on another node's store.
-fn starts_on_anothers(rt: &HostRuntime, words: &Words) -> io::Result<bool> {
-    match store_owner(rt.alloc(), words)? {
-        Some(owner) => is_anothers(rt, &owner),
-        None => Ok(false),
+/// The status of the check of a store that can't be opened: that of a disk that has failed.
+const UNOPENED: u8 = 5;
+
+/// Whether there is no file at this path that can be read. A disk would make one.
+fn is_unopened(rt: &HostRuntime, path: &str) -> io::Result<bool> {
+    match File::open(rt, path) {
+        Ok(_) => Ok(false),
+        Err(error) => {
+            eprintln!(rt; "xtfs: {path}: {error}")?;
+            Ok(true)
+        }
     }
+}
+
+/// The status with which these words end before anything is done: those of a node on another node's store, or of the check of a store that
+/// can't be opened.
+fn ended_early(rt: &HostRuntime, words: &Words) -> io::Result<Option<u8>> {
+    let (ends, status) = match store_use(rt.alloc(), words)? {
+        StoreUse::Owned(owner) => (is_anothers(rt, &owner)?, ANOTHERS),
+        StoreUse::Checked(path) => (is_unopened(rt, path.as_str())?, UNOPENED),
+        StoreUse::Unused => (false, 0),
+    };
+    Ok(if ends { Some(status) } else { None })
 }
 
 /// How the program was called: what it is called by, and the words after that.
@@ -120,8 +139,8 @@ fn main(rt: HostRuntime) -> ExitCode {
         // Memory ran out before anything was done.
         return ExitCode::from(Status::OutOfMemory.code());
     };
-    if matches!(starts_on_anothers(&rt, &words), Ok(true)) {
-        return ExitCode::from(ANOTHERS);
+    if let Ok(Some(status)) = ended_early(&rt, &words) {
+        return ExitCode::from(status);
     }
     let mut sink = StdoutSink::new(io::writer(&rt));
     let mut link = UdpLink::new(alloc, &rt);

@@ -33,7 +33,7 @@ returns-in-Ok-load-clause-loads g c =
     loaded_is (λ disk image told left. g.met.D.Disk.only_now disk image told left) c.args.disk c.args.limit from (placed_on true (D.kept c.args.disk).read extents)
     facts.0 c.in-Ok-load.store loaded.reads
     (λ told. facts.2 told ∙ ap (payloads_on (D.kept (disk_of from)).read) c.as_slice.ensures.value ∙ ap payloads_of (loaded.stays told))
-    loaded.limit loaded.superblock loaded.any_moment loaded.count facts.3
+    loaded.limit loaded.superblock loaded.any_moment loaded.count loaded.same facts.3
 
 pub index-requires : goal.index-requires
 index-requires g c =

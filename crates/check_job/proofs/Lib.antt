@@ -1,0 +1,4 @@
+pub mod Bare
+pub mod Lines
+pub mod Parts
+pub mod Found

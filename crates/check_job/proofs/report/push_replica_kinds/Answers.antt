@@ -1,0 +1,10 @@
+use Rattle.std.proofs.Common.{◌++◌, ℕ, List, [], codes, string_bytes}
+use Rattle.std.proofs.lemmas.Result.{on_ok_weaker}
+use Rattle.check_job.specs.Reports.{count_of, counted_line}
+use Rattle.check_job.proofs.Lines.{ends, grows}
+use Rattle.check_job.proofs.report.push_replica_kinds.Goals as goal
+
+pub returns : goal.returns
+returns c =
+    let line : List ℕ → List ℕ = λ word. counted_line word (count_of word c.args.records.now) in
+    on_ok_weaker c.push_kind-6.result (λ last. grows (string_bytes c.args.text.now) (string_bytes c.push_kind.new.text) (string_bytes c.push_kind-6.new.text) (line (codes "boot")) ((line (codes "promise")) ++ ((line (codes "update")) ++ ((line (codes "stage")) ++ ((line (codes "head")) ++ ((line (codes "view")) ++ []))))) c.in_ok-push_kind.ensures (grows (string_bytes c.push_kind.new.text) (string_bytes c.push_kind-2.new.text) (string_bytes c.push_kind-6.new.text) (line (codes "promise")) ((line (codes "update")) ++ ((line (codes "stage")) ++ ((line (codes "head")) ++ ((line (codes "view")) ++ [])))) c.in_ok-push_kind-2.ensures (grows (string_bytes c.push_kind-2.new.text) (string_bytes c.push_kind-3.new.text) (string_bytes c.push_kind-6.new.text) (line (codes "update")) ((line (codes "stage")) ++ ((line (codes "head")) ++ ((line (codes "view")) ++ []))) c.in_ok-push_kind-3.ensures (grows (string_bytes c.push_kind-3.new.text) (string_bytes c.push_kind-4.new.text) (string_bytes c.push_kind-6.new.text) (line (codes "stage")) ((line (codes "head")) ++ ((line (codes "view")) ++ [])) c.in_ok-push_kind-4.ensures (grows (string_bytes c.push_kind-4.new.text) (string_bytes c.push_kind-5.new.text) (string_bytes c.push_kind-6.new.text) (line (codes "head")) ((line (codes "view")) ++ []) c.in_ok-push_kind-5.ensures (ends (string_bytes c.push_kind-5.new.text) (string_bytes c.push_kind-6.new.text) (line (codes "view")) last)))))) c.push_kind-6.ensures
