@@ -1,6 +1,6 @@
 -- records with the bytes that are in their places
 use Rattle.std.proofs.Common.{◌≡◌, ◌⊎◌, inl, inr, ◌+◌, ◌<◌, ◌≤◌, ℕ, zero, suc, Bool, true, false, List, [], ◌∷◌, ◌++◌, length, map, replicate, get_or, set, take, drop, append_assoc, refl, ap, sym, subst, ◌∙◌, arith}
-use Rattle.std.proofs.lemmas.List.{drop_more, get_or_at, length-map, length-replicate, length-take, length-take-le, map-append, set_at, take_more}
+use Rattle.std.proofs.lemmas.List.{drop_more, get_or_at, length-drop, length-map, length-replicate, length-take, length-take-le, map-append, set_at, take_more}
 use Rattle.xt_base.specs.Faults.{counted}
 use Rattle.xt_messages.specs.declared.record.Record.{Record}
 use Rattle.replica_records.specs.Known.{known_of, without_body}
@@ -88,6 +88,28 @@ pairs-push [] (p ∷ places) rec place are is = absurd are
 pairs-push (r ∷ records) [] rec place are is = absurd are
 pairs-push (r ∷ records) (p ∷ places) rec place are is = (are.0, pairs-push records places rec place are.1 is)
 
+-- the first of those that are left, with its place
+module _ (rec : Record) (rest : List Record) (places : List BodyPlace) (i : ℕ) (d : BodyPlace) (are : ArePairs (rec ∷ rest) (drop i places)) where
+  pub place_left : i < length places
+  place_left = at (drop i places) refl are
+    where
+      at : (left : List BodyPlace) → drop i places ≡ left → ArePairs (rec ∷ rest) left → i < length places
+      at [] is pairs = absurd pairs
+      at (p ∷ left) is pairs = omega (arith, ap length is, length-drop i places)
+
+  pub places_left : drop i places ≡ get_or places i d ∷ drop (i + 1) places
+  places_left = drop_more places i d place_left
+
+  pub pair_left : IsPair rec (get_or places i d)
+  pair_left = (subst (ArePairs (rec ∷ rest)) places_left are).0
+
+  pub pairs_left : ArePairs rest (drop (i + 1) places)
+  pairs_left = (subst (ArePairs (rec ∷ rest)) places_left are).1
+
+pub none_left : (left : List BodyPlace) → ArePairs [] left → left ≡ []
+none_left [] are = refl
+none_left (p ∷ left) are = absurd are
+
 -- as long a body in another place is a pair with it too
 pub pair_elsewhere : (rec : Record) (place other : BodyPlace) → other.len ≡ place.len → IsPair rec place → IsPair rec other
 pair_elsewhere rec place other same is = record { bare = is.bare; takes = λ body few. is.takes body (omega (arith, few, same)) }
@@ -99,12 +121,16 @@ later_pairs by (r ∷ records) [] are = absurd are
 later_pairs by (r ∷ records) (p ∷ places) are = (pair_elsewhere r p (later by p) refl are.0, later_pairs by records places are.1)
 
 module _ (bytes : BodyPlace → List ℕ) where
+  pub filled-append : (records : List Record) (places : List BodyPlace) (recs : List Record) (more : List BodyPlace) → ArePairs records places
+      → filled bytes (records ++ recs) (places ++ more) ≡ filled bytes records places ++ filled bytes recs more
+  filled-append [] [] recs more are = refl
+  filled-append [] (p ∷ places) recs more are = absurd are
+  filled-append (r ∷ records) [] recs more are = absurd are
+  filled-append (r ∷ records) (p ∷ places) recs more are = ap (λ l. with_body (bytes p) r ∷ l) (filled-append records places recs more are.1)
+
   pub filled-push : (records : List Record) (places : List BodyPlace) (rec : Record) (place : BodyPlace) → ArePairs records places
       → filled bytes (records ++ rec ∷ []) (places ++ place ∷ []) ≡ filled bytes records places ++ with_body (bytes place) rec ∷ []
-  filled-push [] [] rec place are = refl
-  filled-push [] (p ∷ places) rec place are = absurd are
-  filled-push (r ∷ records) [] rec place are = absurd are
-  filled-push (r ∷ records) (p ∷ places) rec place are = ap (λ l. with_body (bytes p) r ∷ l) (filled-push records places rec place are.1)
+  filled-push records places rec place are = filled-append records places (rec ∷ []) (place ∷ []) are
 
   pub length-filled : (records : List Record) (places : List BodyPlace) → ArePairs records places → length (filled bytes records places) ≡ length records
   length-filled [] [] are = refl

@@ -16,3 +16,6 @@ pub mod RecordKinds
 pub mod Swapped
 pub mod BareFolds
 pub mod Callers
+pub mod Waited
+pub mod Layering
+pub mod AtOnce

@@ -102,12 +102,17 @@ places_inside bytes end (p ∷ placed) (r ∷ records) small inside texts =
 
 -- ---- the places of their bodies
 
+pub places-append : (placed more : List Placed) (records recs : List Record) → payloads_of placed ≡ texts_of records
+    → places_of (placed ++ more) (records ++ recs) ≡ places_of placed records ++ places_of more recs
+places-append [] more [] recs texts = refl
+places-append [] more (r ∷ records) recs texts = absurd (no_texts _ _ texts)
+places-append (q ∷ placed) more [] recs texts = absurd (no_texts _ _ (sym texts))
+places-append (q ∷ placed) more (r ∷ records) recs texts =
+    ap (λ (l : List BodyPlace). place_of q r ∷ l) (places-append placed more records recs (other_texts _ _ _ _ texts))
+
 pub places-push : (placed : List Placed) (records : List Record) (p : Placed) (rec : Record) → payloads_of placed ≡ texts_of records
     → places_of (placed ++ p ∷ []) (records ++ rec ∷ []) ≡ places_of placed records ++ place_of p rec ∷ []
-places-push [] [] p rec texts = refl
-places-push [] (r ∷ records) p rec texts = absurd (no_texts _ _ texts)
-places-push (q ∷ placed) [] p rec texts = absurd (no_texts _ _ (sym texts))
-places-push (q ∷ placed) (r ∷ records) p rec texts = ap (λ (l : List BodyPlace). place_of q r ∷ l) (places-push placed records p rec (other_texts _ _ _ _ texts))
+places-push placed records p rec texts = places-append placed (p ∷ []) records (rec ∷ []) texts
 
 -- in an area that begins further on
 pub places_later : (by gate : ℕ) (payloads : List (List ℕ)) (records : List Record)

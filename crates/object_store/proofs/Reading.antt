@@ -1,8 +1,9 @@
 -- payloads that are read as records, one after the other
-use Rattle.std.proofs.Common.{◌≡◌, ℕ, List, [], ◌∷◌, ◌++◌, length, ap, ◌∙◌, sym, arith}
-use Rattle.std.specs.List.{fold}
+use Rattle.std.proofs.Common.{◌≡◌, ℕ, List, [], ◌∷◌, ◌++◌, length, ap, ◌∙◌, sym, subst, arith}
+use Rattle.std.specs.List.{All, fold}
 use Rattle.std.proofs.lemmas.List.{map-append}
-use Rattle.std.proofs.lemmas.List.Elements.{All-push}
+use Rattle.std.proofs.lemmas.List.Elements.{All-append, All-push}
+use Rattle.std.proofs.lemmas.List.Sums.{fold-append}
 use Rattle.xt_messages.specs.Limits.{FitsRecord}
 use Rattle.xt_messages.specs.declared.record.Folded.{Folded}
 use Rattle.xt_messages.specs.declared.record.Record.{Record}
@@ -15,18 +16,32 @@ use Rattle.object_store.specs.Texts.{texts_of, AreRecords, IsFirstBad}
 pub texts-push : (records : List Record) (rec : Record) → texts_of (records ++ rec ∷ []) ≡ texts_of records ++ record_text rec ∷ []
 texts-push records rec = map-append record_text records (rec ∷ [])
 
-placed-push : (folded : Folded) (records : List Record) (rec : Record) → AreInPlace folded records → IsInPlace (fold folded_after folded records) rec
-    → AreInPlace folded (records ++ rec ∷ [])
-placed-push folded [] rec are is = (is, tt)
-placed-push folded (r ∷ records) rec are is = (are.0, placed-push (folded_after folded r) records rec are.1 is)
+placed-append : (folded : Folded) (records recs : List Record) → AreInPlace folded records → AreInPlace (fold folded_after folded records) recs
+    → AreInPlace folded (records ++ recs)
+placed-append folded [] recs are more = more
+placed-append folded (r ∷ records) recs are more = (are.0, placed-append (folded_after folded r) records recs are.1 more)
 
--- a record more, in its place
-pub are-push : (records : List Record) (rec : Record) → AreRecords records → FitsRecord rec → IsInPlace (fold_of records) rec → AreRecords (records ++ rec ∷ [])
+-- records more, each in its place
+pub in_place-append : (before records recs : List Record) → AreInPlace (fold_of before) records → AreInPlace (fold_of (before ++ records)) recs
+    → AreInPlace (fold_of before) (records ++ recs)
 unfolding fold_of
-are-push records rec are fits is = record {
-  fit = All-push FitsRecord records rec are.fit fits;
-  placed = placed-push nothing_kept records rec are.placed is;
+in_place-append before records recs are more =
+    placed-append (fold_of before) records recs are
+    (subst (λ (f : Folded). AreInPlace f recs) (fold-append folded_after nothing_kept before records) more)
+
+pub are-append : (records recs : List Record) → AreRecords records → All FitsRecord recs → AreInPlace (fold_of records) recs → AreRecords (records ++ recs)
+unfolding fold_of
+are-append records recs are fit more = record {
+  fit = All-append FitsRecord records recs are.fit fit;
+  placed = placed-append nothing_kept records recs are.placed more;
 }
+
+pub one_fits : (rec : Record) → FitsRecord rec → All FitsRecord (rec ∷ [])
+one_fits rec fits = All-push FitsRecord [] rec (λ k d less. absurd (omega (arith, less))) fits
+
+-- a record more
+pub are-push : (records : List Record) (rec : Record) → AreRecords records → FitsRecord rec → IsInPlace (fold_of records) rec → AreRecords (records ++ rec ∷ [])
+are-push records rec are fits is = are-append records (rec ∷ []) are (one_fits rec fits) (is, tt)
 
 pub none_are : AreRecords []
 none_are = record { fit = λ k d less. absurd (omega arith); placed = tt }

@@ -31,7 +31,7 @@ rest_given : (p : List ℕ) (ps : List (List ℕ)) → AreGiven (p ∷ ps) → A
 rest_given p ps given = λ k d less. given (suc k) d (omega (arith, less))
 
 -- one after the other
-inside_from : (bytes front : List ℕ) (gate end : ℕ) (payloads : List (List ℕ)) (rest : List ℕ) → AreGiven payloads → bytes ≡ front ++ (records payloads ++ rest)
+pub inside_from : (bytes front : List ℕ) (gate end : ℕ) (payloads : List (List ℕ)) (rest : List ℕ) → AreGiven payloads → bytes ≡ front ++ (records payloads ++ rest)
     → length front ≡ gate → gate + length (records payloads) ≤ end → AreInside bytes end (placed_from gate payloads)
 inside_from bytes front gate end [] rest given are size below = tt
 inside_from bytes front gate end (p ∷ ps) rest given are size below =
@@ -64,6 +64,38 @@ all_past place gate (p ∷ payloads) below =
     ap (λ (g : ℕ). record { gate = g; bytes = p } ∷ map (past place) (placed_from (gate + (5 + length p)) payloads)) here
     ∙ ap (λ (l : List Placed). record { gate = gate + 56; bytes = p } ∷ l)
     (all_past place (gate + (5 + length p)) payloads (omega (arith, below)) ∙ ap (λ (g : ℕ). placed_from g payloads) there)
+
+-- ---- payloads after those of a journal: the first one's gate is where it ends
+
+past-append : (place : ℕ) (payloads more : List (List ℕ)) → place ≤ 12 + length (records payloads)
+    → map (past place) (placed_from 12 (payloads ++ more)) ≡ map (past place) (placed_from 12 payloads) ++ placed_from (68 + length (records payloads)) more
+past-append place payloads more below =
+    let gate = 12 + length (records payloads) in
+    let there : gate + 56 ≡ 68 + length (records payloads) = omega arith in
+    ap (map (past place)) (placed_from-append 12 payloads more) ∙ map-append (past place) (placed_from 12 payloads) (placed_from gate more)
+    ∙ ap (λ (l : List Placed). map (past place) (placed_from 12 payloads) ++ l) (all_past place gate more below ∙ ap (λ (g : ℕ). placed_from g more) there)
+
+module _ (bytes : List ℕ) (s : Superblock) (payloads more : List (List ℕ)) (rest : List ℕ) where
+  abbrev placed_then : Option Slot → List Placed
+  placed_then slot = placed_by s slot payloads ++ placed_from (end_by s slot payloads) more
+
+  unmoved-append : IsUnmoved bytes s payloads rest → placed_in (Some s) (payloads ++ more) ≡ placed_in (Some s) payloads ++ placed_from (end_in (Some s) payloads) more
+  unmoved-append is =
+      let gate = has_gate bytes s is.before (records is.after ++ rest) is.has in
+      let size : length (records payloads) ≡ length (records is.before) + length (records is.after) =
+      ap (λ (ps : List (List ℕ)). length (records ps)) is.all ∙ ap length (records-append is.before is.after) ∙ length-append (records is.before) (records is.after) in
+      ap (λ (c : Option Slot). placed_by s c (payloads ++ more)) is.none ∙ past-append s.gate payloads more (omega (arith, gate, size)) ∙ sym (ap placed_then is.none)
+
+  moved-append : IsMoved bytes s payloads rest → placed_in (Some s) (payloads ++ more) ≡ placed_in (Some s) payloads ++ placed_from (end_in (Some s) payloads) more
+  moved-append is =
+      ap (λ (c : Option Slot). placed_by s c (payloads ++ more)) is.counts ∙ placed_from-append is.slot.place payloads more ∙ sym (ap placed_then is.counts)
+
+pub placed_in-append : (super : Option Superblock) (bytes : List ℕ) (payloads more : List (List ℕ)) (rest : List ℕ) → Reached super bytes payloads rest
+    → placed_in super (payloads ++ more) ≡ placed_in super payloads ++ placed_from (end_in super payloads) more
+placed_in-append None bytes payloads more rest is = placed_from-append 12 payloads more
+placed_in-append (Some s) bytes payloads more rest is = ⊎_elim (unmoved-append bytes s payloads more rest) (moved-append bytes s payloads more rest) is
+
+-- ---- payloads among the bytes
 
 module _ (bytes : List ℕ) (s : Superblock) (payloads : List (List ℕ)) (rest : List ℕ) where
   unmoved : IsUnmoved bytes s payloads rest → AreInside bytes (end_in (Some s) payloads) (placed_in (Some s) payloads)

@@ -1,8 +1,9 @@
 -- what is known of the records of a store, from its log and its journal
-use Rattle.std.proofs.Common.{◌≡◌, ℕ, ◌<◌, ◌^◌, true, false, Bool, List, [], ◌∷◌, ◌++◌, length, replicate, refl, sym, ◌∙◌, ap, subst, Option}
+use Rattle.std.proofs.Common.{◌≡◌, ℕ, ◌<◌, ◌^◌, true, false, Bool, List, ◌∷◌, ◌++◌, refl, sym, ◌∙◌, ap, subst, Option}
 use Rattle.std.specs.Prelude.{IsTrue, Contains}
 use Rattle.std.proofs.Props.{props}
 use Rattle.std.proofs.Math.Logic.{∥∥₁_elim, ∥∥₁_map}
+use Rattle.std.proofs.lemmas.List.{map-append}
 use Rattle.std.proofs.lemmas.List.Elements.{All-from_recursion}
 use Rattle.disk_model.specs.declared.disk.Disk.{Ghosts}
 use Rattle.journal_areas.specs.declared.superblock.Superblock.{Superblock}
@@ -12,23 +13,21 @@ use Rattle.xt_journal.specs.declared.journal.Journal.{Journal}
 use Rattle.xt_journal.specs.Placed.{Placed}
 use Rattle.xt_journal.specs.Access.{disk_of, place_of, superblock_of}
 use Rattle.xt_journal.specs.Format.{end_in, IsJournal, KeepsJournal}
-use Rattle.xt_journal.specs.Reading.{payloads_of, placed_in}
-use Rattle.xt_journal.proofs.Push.{payloads_in, placed_in-push}
+use Rattle.xt_journal.specs.Reading.{payloads_of, placed_from, placed_in}
+use Rattle.xt_journal.proofs.Push.{payloads_in}
 use Rattle.replica_records.specs.Known.{as_known, known_of}
-use Rattle.replica_records.specs.Places.{body_in}
 use Rattle.replica_records.specs.RecordText.{record_text}
 use Rattle.replica_records.proofs.Known.{known_told}
 use Rattle.object_store.specs.declared.log.StoreLog.{StoreLog}
 use Rattle.object_store.specs.declared.place.BodyPlace.{BodyPlace}
-use Rattle.object_store.specs.Bare.{bare, bare_of, with_body}
+use Rattle.object_store.specs.Bare.{bare_of}
 use Rattle.object_store.specs.Laid.{IsLaid}
 use Rattle.object_store.specs.Logs.{bare_in, places_in, records_in}
 use Rattle.object_store.specs.Places as places
 use Rattle.object_store.specs.Texts.{texts_of}
-use Rattle.object_store.proofs.Filled.{bare_filled, filled-push, filled_known, with_zeros}
-use Rattle.object_store.proofs.Standing.{AreInside, inside_in}
-use Rattle.object_store.proofs.ReadBack.{IsReadable, filled_back, filled_zeros, places-push, places_inside}
-use Rattle.object_store.proofs.Reading.{texts-push}
+use Rattle.object_store.proofs.Filled.{bare_filled, filled-append, filled_known}
+use Rattle.object_store.proofs.Standing.{AreInside, inside_in, placed_in-append}
+use Rattle.object_store.proofs.ReadBack.{IsReadable, filled_back, filled_zeros, places-append, places_inside}
 
 records_set : (a b : List Record) → IsProp (a ≡ b)
 records_set a b = hlevel props
@@ -94,37 +93,36 @@ places_known read super end records log small laid here place among =
     let moved = subst (λ (ps : List BodyPlace). Contains ps place) laid among in
     subst (IsReadable read) moved.2 (all moved.0 place moved.1))
 
--- ---- a record more
+-- ---- records more
 
--- its payload's gate is where the journal ended
-pub laid-push : (super : Option Superblock) (read : List ℕ) (end : ℕ) (records : List Record) (rec : Record) (old new : StoreLog) → ∥ IsHere super read end (texts_of records) ∥₁
-    → IsLaid super records old → places_in new ≡ places_in old ++ places.place_of (record { gate = end; bytes = record_text rec }) rec ∷ []
-    → places_in new ≡ places.places_of (placed_in super (texts_of (records ++ rec ∷ []))) (records ++ rec ∷ [])
-laid-push super read end records rec old new here laid more =
+-- the first payload's gate is where the journal ended
+pub laid-append : (super : Option Superblock) (read : List ℕ) (end : ℕ) (records recs : List Record) (old new : StoreLog) → ∥ IsHere super read end (texts_of records) ∥₁
+    → IsLaid super records old → places_in new ≡ places_in old ++ places.places_of (placed_from end (texts_of recs)) recs
+    → places_in new ≡ places.places_of (placed_in super (texts_of (records ++ recs))) (records ++ recs)
+laid-append super read end records recs old new here laid more =
     let texts = texts_of records in
-    let text = record_text rec in
     let placed = placed_in super texts in
-    let next : Placed = record { gate = end; bytes = text } in
-    let pushed : placed_in super (texts_of (records ++ rec ∷ [])) ≡ placed ++ next ∷ [] =
+    let next = placed_from end (texts_of recs) in
+    let pushed : placed_in super (texts_of (records ++ recs)) ≡ placed ++ next =
     ∥∥₁_elim here (hlevel props)
     (λ is.
-    ap (placed_in super) (texts-push records rec)
-    ∙ placed_in-push super read texts (is.journal.gate ∷ is.journal.rest) text is.journal.reached
-    ∙ ap (λ (g : ℕ). placed ++ record { gate = g; bytes = text } ∷ []) (sym is.place)) in
+    ap (placed_in super) (map-append record_text records recs)
+    ∙ placed_in-append super read texts (texts_of recs) (is.journal.gate ∷ is.journal.rest) is.journal.reached
+    ∙ ap (λ (g : ℕ). placed ++ placed_from g (texts_of recs)) (sym is.place)) in
     more
-    ∙ ap (λ (ps : List BodyPlace). ps ++ places.place_of next rec ∷ []) laid
-    ∙ sym (places-push placed records next rec (payloads_in super texts))
-    ∙ ap (λ (ps : List Placed). places.places_of ps (records ++ rec ∷ [])) (sym pushed)
+    ∙ ap (λ (ps : List BodyPlace). ps ++ places.places_of next recs) laid
+    ∙ sym (places-append placed next records recs (payloads_in super texts))
+    ∙ ap (λ (ps : List Placed). places.places_of ps (records ++ recs)) (sym pushed)
 
--- what is known of a log with one more, where contracts don't know what the disk keeps
-pub zeros-push : (before after : List ℕ) (rec : Record) (place : BodyPlace) (old new : StoreLog) → bare_in new ≡ bare_in old ++ bare rec ∷ [] → places_in new ≡ places_in old ++ place ∷ []
-    → place.len ≡ length (body_in rec) → records_in false after new ≡ records_in false before old ++ as_known false rec ∷ []
-zeros-push before after rec place old new bare_is places_is len =
+-- what is known of a log with these more, where contracts don't know what the disk keeps
+pub zeros-append : (before after : List ℕ) (placed : List Placed) (recs : List Record) (old new : StoreLog) → bare_in new ≡ bare_in old ++ bare_of recs
+    → places_in new ≡ places_in old ++ places.places_of placed recs → payloads_of placed ≡ texts_of recs
+    → records_in false after new ≡ records_in false before old ++ known_of false recs
+zeros-append before after placed recs old new bare_is places_is texts =
     ap (λ (rs : List Record). places.filled (places.bytes_at false after) rs (places_in new)) bare_is
-    ∙ ap (λ (ps : List BodyPlace). places.filled (places.bytes_at false after) (bare_in old ++ bare rec ∷ []) ps) places_is
-    ∙ filled-push (places.bytes_at false after) (bare_in old) (places_in old) (bare rec) place old.pairs
-    ∙ ap (λ (n : ℕ). records_in false before old ++ with_body (replicate n 0) (bare rec) ∷ []) len
-    ∙ ap (λ (r : Record). records_in false before old ++ r ∷ []) (with_zeros rec)
+    ∙ ap (λ (ps : List BodyPlace). places.filled (places.bytes_at false after) (bare_in old ++ bare_of recs) ps) places_is
+    ∙ filled-append (places.bytes_at false after) (bare_in old) (places_in old) (bare_of recs) (places.places_of placed recs) old.pairs
+    ∙ ap (λ (l : List Record). records_in false before old ++ l) (filled_zeros after placed recs texts)
 
 -- the log has the records without their bodies
 pub bare_known : (told : Bool) (read : List ℕ) (log : StoreLog) → bare_of (records_in told read log) ≡ bare_in log

@@ -1,8 +1,9 @@
 -- stores: what is known of their records after a call
-use Rattle.std.proofs.Common.{◌≡◌, ◌≤◌, ◌+◌, ℕ, true, false, Bool, List, [], ◌∷◌, ◌++◌, map, get_or, refl, sym, ◌∙◌, ap, subst, arith, Option, Some, None}
+use Rattle.std.proofs.Common.{◌≡◌, ◌≤◌, ◌+◌, ℕ, true, false, Bool, List, ◌++◌, map, get_or, refl, sym, ◌∙◌, ap, subst, arith, Option, Some, None}
 use Rattle.std.specs.Prelude.{IsTrue}
 use Rattle.std.proofs.Math.Logic.{∥∥₁_map}
 use Rattle.std.proofs.lemmas.List.{map-append}
+use Rattle.std.specs.List.{All}
 use Rattle.std.proofs.lemmas.List.Elements.{All-map}
 use Rattle.disk_model.specs.declared.disk.Disk.{Ghosts}
 use Rattle.disk_model.specs.Disk.{Kept}
@@ -13,16 +14,15 @@ use Rattle.journal_areas.specs.Sites.{area_by, area_of, area_size, new_area_of}
 use Rattle.journal_areas.specs.Superblocks.{current}
 use Rattle.xt_messages.specs.Limits.{FitsRecord}
 use Rattle.xt_messages.specs.declared.record.Record.{Record}
-use Rattle.xt_protocol.specs.Folds.{fold_of, IsInPlace, nothing_kept}
+use Rattle.xt_protocol.specs.Folds.{fold_of, AreInPlace, nothing_kept}
 use Rattle.xt_journal.specs.declared.journal.Journal.{Journal}
 use Rattle.xt_journal.specs.Placed.{Placed}
 use Rattle.xt_journal.specs.Access as access
 use Rattle.xt_journal.specs.Format.{records, KeepsJournal}
 use Rattle.xt_journal.specs.Reading.{payloads_of, placed_by, placed_from, placed_in}
-use Rattle.xt_journal.proofs.Push.{payloads_in}
+use Rattle.xt_journal.proofs.Push.{payloads_in, payloads_of_placed}
 use Rattle.replica_records.specs.Known.{as_known, known_of}
-use Rattle.replica_records.specs.RecordText.{record_text}
-use Rattle.replica_records.proofs.Known.{are_in_place_known, fits_known, in_place_known, known_append}
+use Rattle.replica_records.proofs.Known.{are_in_place_known, fits_known, known_append}
 use Rattle.object_store.specs.declared.log.StoreLog.{StoreLog}
 use Rattle.object_store.specs.declared.place.BodyPlace.{BodyPlace}
 use Rattle.object_store.specs.declared.store.Store.{Store}
@@ -33,13 +33,16 @@ use Rattle.object_store.specs.Logs.{bare_in, places_in, records_in}
 use Rattle.object_store.specs.Places as places
 use Rattle.object_store.specs.Texts.{texts_of, AreRecords}
 use Rattle.object_store.proofs.ReadBack.{places_later}
-use Rattle.object_store.proofs.Reading.{are-push}
-use Rattle.object_store.proofs.Stored.{as_known_there, bare_known, is_here, known_in, known_read, known_there, laid-push, zeros-push}
+use Rattle.object_store.proofs.Reading.{are-append}
+use Rattle.object_store.proofs.Stored.{bare_known, is_here, known_in, known_read, known_there, laid-append, zeros-append}
+
+pub all_fit_known : (told : Bool) (records : List Record) → All FitsRecord records → All FitsRecord (known_of told records)
+all_fit_known told records fit = All-map FitsRecord (as_known told) records (λ k d less. fits_known told (get_or records k d) (fit k d less))
 
 -- what is known of records is such records too
 pub known_are : (told : Bool) (records : List Record) → AreRecords records → AreRecords (known_of told records)
 known_are told records are = record {
-  fit = All-map FitsRecord (as_known told) records (λ k d less. fits_known told (get_or records k d) (are.fit k d less));
+  fit = all_fit_known told records are.fit;
   placed = are_in_place_known told nothing_kept records are.placed;
 }
 
@@ -73,50 +76,52 @@ module _ {D : Type 0} {g : Ghosts D} (journal : Journal D g) (log : StoreLog) wh
       sound = ∣ subst AreRecords (sym made_known) (known_are g.is_told made are) ∣₁;
     }
 
-  -- ---- a record more
+  -- ---- records more
 
-  module _ (old : Store D g) (rec : Record) (bare_is : bare_in log ≡ bare_in old.log ++ bare rec ∷ [])
-      (places_is : places_in log ≡ places_in old.log ++ places.place_of (record { gate = access.place_of (journal_of old); bytes = record_text rec }) rec ∷ [])
-      (keeps : IsTrue g.is_told → KeepsJournal (g.kept (access.disk_of journal)) (texts_of (records_of old ++ rec ∷ [])))
+  module _ (old : Store D g) (recs : List Record) (bare_is : bare_in log ≡ bare_in old.log ++ bare_of recs)
+      (places_is : places_in log ≡ places_in old.log ++ places.places_of (placed_from (access.place_of (journal_of old)) (texts_of recs)) recs)
+      (keeps : IsTrue g.is_told → KeepsJournal (g.kept (access.disk_of journal)) (texts_of (records_of old ++ recs)))
       (super_is : access.superblock_of journal ≡ access.superblock_of (journal_of old)) where
-    bare_more : bare_in log ≡ bare_of (records_of old ++ rec ∷ [])
+    bare_more : bare_in log ≡ bare_of (records_of old ++ recs)
     bare_more =
-        bare_is ∙ ap (λ (l : List Record). l ++ bare rec ∷ []) (sym (bare_known g.is_told (g.kept (disk_of old)).read old.log))
-        ∙ sym (map-append bare (records_of old) (rec ∷ []))
+        bare_is ∙ ap (λ (l : List Record). l ++ bare_of recs) (sym (bare_known g.is_told (g.kept (disk_of old)).read old.log))
+        ∙ sym (map-append bare (records_of old) recs)
 
-    laid_more : IsTrue g.is_told → IsLaid (access.superblock_of journal) (records_of old ++ rec ∷ []) log
+    laid_more : IsTrue g.is_told → IsLaid (access.superblock_of journal) (records_of old ++ recs) log
     laid_more told =
-        subst (λ (s : Option Superblock). IsLaid s (records_of old ++ rec ∷ []) log) (sym super_is)
-        (laid-push (access.superblock_of (journal_of old)) (g.kept (disk_of old)).read (access.place_of (journal_of old)) (records_of old) rec old.log log
+        subst (λ (s : Option Superblock). IsLaid s (records_of old ++ recs) log) (sym super_is)
+        (laid-append (access.superblock_of (journal_of old)) (g.kept (disk_of old)).read (access.place_of (journal_of old)) (records_of old) recs old.log log
         (is_here (journal_of old) (texts_of (records_of old)) told (old.keeps told)) (old.laid told) places_is)
 
-    pub put_known : records_in g.is_told (g.kept (access.disk_of journal)).read log ≡ records_of old ++ as_known g.is_told rec ∷ []
+    pub put_known : records_in g.is_told (g.kept (access.disk_of journal)).read log ≡ records_of old ++ known_of g.is_told recs
     put_known = at g.is_told refl
       where
-        at : (t : Bool) → g.is_told ≡ t → records_in g.is_told (g.kept (access.disk_of journal)).read log ≡ records_of old ++ as_known g.is_told rec ∷ []
+        at : (t : Bool) → g.is_told ≡ t → records_in g.is_told (g.kept (access.disk_of journal)).read log ≡ records_of old ++ known_of g.is_told recs
         at true told =
             let s = access.superblock_of journal in
-            let texts = texts_of (records_of old ++ rec ∷ []) in
-            known_read g.is_told (g.kept (access.disk_of journal)).read s (access.place_of journal) (placed_in s texts) (records_of old ++ rec ∷ []) log bare_more (laid_more told)
+            let texts = texts_of (records_of old ++ recs) in
+            known_read g.is_told (g.kept (access.disk_of journal)).read s (access.place_of journal) (placed_in s texts) (records_of old ++ recs) log bare_more (laid_more told)
             (payloads_in s texts) (omega (arith, journal.located.small)) (λ told. refl) (λ told. is_here journal texts told (keeps told))
-            ∙ known_append g.is_told (records_of old) (rec ∷ [])
-            ∙ ap (λ (l : List Record). l ++ as_known g.is_told rec ∷ []) (known_in g.is_told (g.kept (disk_of old)).read old.log)
+            ∙ known_append g.is_told (records_of old) recs
+            ∙ ap (λ (l : List Record). l ++ known_of g.is_told recs) (known_in g.is_told (g.kept (disk_of old)).read old.log)
         at false unknown =
-            subst (λ (t : Bool). records_in t (g.kept (access.disk_of journal)).read log ≡ records_in t (g.kept (disk_of old)).read old.log ++ as_known t rec ∷ []) (sym unknown)
-            (zeros-push (g.kept (disk_of old)).read (g.kept (access.disk_of journal)).read rec
-            (places.place_of (record { gate = access.place_of (journal_of old); bytes = record_text rec }) rec) old.log log bare_is places_is refl)
+            let end = access.place_of (journal_of old) in
+            subst (λ (t : Bool). records_in t (g.kept (access.disk_of journal)).read log ≡ records_in t (g.kept (disk_of old)).read old.log ++ known_of t recs) (sym unknown)
+            (zeros-append (g.kept (disk_of old)).read (g.kept (access.disk_of journal)).read (placed_from end (texts_of recs)) recs old.log log bare_is places_is
+            (payloads_of_placed end (texts_of recs)))
 
-    put_there : IsTrue g.is_told → records_in g.is_told (g.kept (access.disk_of journal)).read log ≡ records_of old ++ rec ∷ []
-    put_there told = put_known ∙ ap (λ (r : Record). records_of old ++ r ∷ []) (as_known_there g.is_told rec told)
+    put_there : IsTrue g.is_told → records_in g.is_told (g.kept (access.disk_of journal)).read log ≡ records_of old ++ recs
+    put_there told = put_known ∙ ap (λ (l : List Record). records_of old ++ l) (known_there g.is_told recs told)
 
-    pub put_kept : FitsRecord rec → IsInPlace (fold_of (records_of old)) rec → AreKept journal log
-    put_kept fits there = record {
+    pub put_kept : All FitsRecord recs → AreInPlace (fold_of (records_of old)) recs → AreKept journal log
+    put_kept fit there = record {
       keeps = λ told. subst (λ (rs : List Record). KeepsJournal (g.kept (access.disk_of journal)) (texts_of rs)) (sym (put_there told)) (keeps told);
       laid = λ told. subst (λ (rs : List Record). IsLaid (access.superblock_of journal) rs log) (sym (put_there told)) (laid_more told);
       sound =
           ∥∥₁_map old.sound
           (λ are. subst AreRecords (sym put_known)
-          (are-push (records_of old) (as_known g.is_told rec) are (fits_known g.is_told rec fits) (in_place_known g.is_told (fold_of (records_of old)) rec there)));
+          (are-append (records_of old) (known_of g.is_told recs) are (all_fit_known g.is_told recs fit)
+          (are_in_place_known g.is_told (fold_of (records_of old)) recs there)));
     }
 
   -- ---- the same records

@@ -10,9 +10,11 @@ pub mod Laid
 pub mod Access
 pub mod Loading
 pub mod Answers
+pub mod Waits
 pub mod Puts
 pub mod Swaps
 pub mod Swapping
 pub mod FitProps
 pub mod Readers
 pub mod Seen
+pub mod Layers

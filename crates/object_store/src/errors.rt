@@ -32,3 +32,12 @@ pub enum AppendErr<D: Disk> {
         store: Store<D>,
     },
 }
+
+/// Why records aren't put at once. The store is gone, and must be loaded again.
+#[derive(Drop)]
+pub enum PutAllErr<D: Disk> {
+    /// The disk has failed; this is its count of faults.
+    Broken { count: u64, disk: D },
+    /// No device call was made.
+    OutOfMemory { disk: D },
+}

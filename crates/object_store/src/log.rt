@@ -73,6 +73,26 @@ impl StoreLog {
         Ok(())
     }
 
+    /// Puts all records of another log after these, each with the place of its body this many bytes further on.
+    pub fn append(&mut self, mut more: StoreLog, by: u64) -> Result<(), OutOfMemory>
+        ensures bare { OnOk result (bare_in self.new ≡ bare_in self.old ++ bare_in more) }
+        ensures places { OnOk result (places_in self.new ≡
+            places_in self.old ++ map (later by) (places_in more)) }
+    {
+        more.move_on(by);
+        let StoreLog {
+            records,
+            bodies,
+            last: _,
+        } = more;
+        let mut index = 0;
+        for rec in records {
+            self.push(rec, bodies[index])?;
+            index += 1;
+        }
+        Ok(())
+    }
+
     /// Moves the places of all bodies so many bytes further on.
     pub fn move_on(&mut self, by: u64)
         ensures bare { bare_in self.new ≡ bare_in self.old }

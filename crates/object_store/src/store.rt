@@ -6,10 +6,11 @@ ghost use Rattle.object_store.specs.Laid.{IsLaid, told_laid_prop};
 ghost use Rattle.object_store.specs.Logs.{records_in};
 ghost use Rattle.object_store.specs.Texts.{texts_of, AreRecords};
 
-use crate::errors::{AppendErr, StoreErr};
+use crate::errors::{AppendErr, PutAllErr, StoreErr};
 use crate::loading::{Trouble, read_all};
 use crate::log::StoreLog;
-use crate::preparing::prepare;
+use crate::preparing::{prepare, prepare_all};
+use crate::waiting::{StageErr, Waiting};
 use disk_model::Disk;
 use journal_areas::Area;
 use journal_moves::Extent;
@@ -35,15 +36,16 @@ pub struct Store<D: Disk> {
 }
 
 impl<D: Disk> Store<D> {
-    ghost use Rattle.std.specs.Prelude.{◌≡◌};
+    ghost use Rattle.std.specs.Prelude.{◌≡◌, ◌≤◌, ◌<◌, ◌+◌, ◌^◌, length, OnOk, IfErr};
     ghost use Rattle.xt_messages.specs.Limits.{FitsRecord};
     ghost use Rattle.xt_protocol.specs.Folds.{fold_of, IsInPlace};
-    ghost use Rattle.xt_journal.specs.Access.{place_of};
+    ghost use Rattle.xt_journal.specs.Access.{limit_of, place_of};
     ghost use Rattle.xt_journal.specs.Placed.{AreWithin};
     ghost use Rattle.object_store.specs.Access as store;
     ghost use Rattle.object_store.specs.Bare.{bare_of};
     ghost use Rattle.object_store.specs.Loading.{ArePlaced, IsLoadFrom};
-    ghost use Rattle.object_store.specs.Puts.{Puts};
+    ghost use Rattle.object_store.specs.Puts.{Puts, PutsAll};
+    ghost use Rattle.object_store.specs.Waits.{CanBePut, IsRefused, recs_of};
 
     /// The store of the records that the journal's payloads are. Their extents are those that its loading gave. The payloads are read one
     /// at a time.
@@ -108,6 +110,57 @@ impl<D: Disk> Store<D> {
                 let store = Store { journal, log };
                 Err(AppendErr::OutOfMemory { store })
             }
+        }
+    }
+
+    /// Puts all records that wait after the others, on the disk at once and then in memory. At `Ok` each crash leaves all of them from then on;
+    /// at any moment before, a crash leaves the store's records with all of these or with none of them.
+    ///
+    /// It makes as many device calls as a put of one record. Memory can only run out before the first of them. After an error the store is
+    /// gone, and must be loaded again.
+    pub fn put_all(self, waiting: Waiting) -> Result<Store<D>, PutAllErr<D>>
+        requires some { 1 ≤ length (recs_of waiting) }
+        requires can { CanBePut self (recs_of waiting) }
+        ensures { PutsAll self (recs_of waiting) result }
+    {
+        let Store { journal, mut log } = self;
+        let Waiting {
+            mut bytes,
+            log: more,
+        } = waiting;
+        let Ok(()) = prepare_all(&mut log, &mut bytes, more, journal.end()) else {
+            let disk = journal.close();
+            return Err(PutAllErr::OutOfMemory { disk });
+        };
+        match journal.append_all(&bytes.as_slice()[1..]) {
+            Ok(journal) => Ok(Store { journal, log }),
+            Err(xt_journal::AppendErr::Broken { count, disk }) => Err(PutAllErr::Broken {
+                count,
+                disk,
+            }),
+            Err(xt_journal::AppendErr::Full { .. }) => unreachable!(),
+            Err(xt_journal::AppendErr::OutOfMemory { journal }) => {
+                let disk = journal.close();
+                Err(PutAllErr::OutOfMemory { disk })
+            }
+        }
+    }
+
+    /// Whether the journal has room for as many bytes of records as wait, and for a payload more.
+    pub(crate) fn room_for(&self, waiting: usize, payload: usize) -> Result<(), StageErr>
+        requires { payload < 2 ^ 32 }
+        ensures room { OnOk result ((place_of (store.journal_of self.now) + waiting) + (6 + payload)
+            ≤ limit_of (store.journal_of self.now)) }
+        ensures full { IfErr result (IsRefused self.now
+            ((place_of (store.journal_of self.now) + waiting) + (6 + payload))) }
+    {
+        let len = (waiting as u64).saturating_add(5 + payload as u64);
+        match self.journal.need_after(len) {
+            Ok(_) => Ok(()),
+            Err(need) => Err(StageErr::Full {
+                need,
+                limit: self.journal.limit(),
+            }),
         }
     }
 

@@ -3,7 +3,7 @@ ghost use Rattle.xt_journal.specs.Format.{EndsAt};
 ghost use Rattle.xt_journal.specs.Located.{IsLocated, located_prop};
 
 use crate::ahead::ReadAhead;
-use crate::append::{Refusal, append_to, need_of};
+use crate::append::{Refusal, append_run, append_to, need_after, need_of};
 use crate::errors::{AppendErr, LoadErr};
 use crate::format::{Found, Trouble};
 use crate::load::load_from;
@@ -25,14 +25,14 @@ pub struct Journal<D: Disk> {
 }
 
 impl<D: Disk> Journal<D> {
-    ghost use Rattle.std.specs.Prelude.{◌≡◌, ◌≢◌, ◌≤◌, ◌<◌, ◌+◌, ◌^◌, ◌++◌, ◌∷◌, [], ℕ, true, List, IfOk, IfSome, OnOk, OnErr, IsSome, is_some, length, slice_index};
+    ghost use Rattle.std.specs.Prelude.{◌≡◌, ◌≢◌, ◌≤◌, ◌<◌, ◌+◌, ◌^◌, ◌++◌, ◌∷◌, [], ℕ, true, List, IfOk, IfSome, OnOk, OnErr, IsSome, MatchResult, is_some, length, slice_index};
     ghost use Rattle.disk_model.specs.Disk.{IsImage, LeavesOnly, at_rest};
-    ghost use Rattle.xt_base.specs.Faults.{fault_count_after};
+    ghost use Rattle.xt_base.specs.Faults.{counted, fault_count_after};
     ghost use Rattle.journal_areas.specs.Sites.{area_of};
     ghost use Rattle.xt_journal.specs.Access.{disk_of, place_of, limit_of, superblock_of};
     ghost use Rattle.xt_journal.specs.Ahead.{size_of, source_of};
     ghost use Rattle.xt_journal.specs.Answers.{IsFullExactly, append_fault, disk_after_append, disk_after_load, load_fault, reading_of, without_memory};
-    ghost use Rattle.xt_journal.specs.Append.{IsStopped, IsWithOrWithout};
+    ghost use Rattle.xt_journal.specs.Append.{AreStopped, IsRunOf, IsStopped, IsWithAllOrNone, IsWithOrWithout};
     ghost use Rattle.journal_records.specs.Calls.{AllSucceed, GoesOn};
     ghost use Rattle.xt_journal.specs.Format.{KeepsJournal, StandsFor, StandsIn, end_in, journal_of, superblock_kind};
     ghost use Rattle.xt_journal.specs.Loaded.{LeavesAsBefore, LeavesDisk, FailedCall, MadeCalls};
@@ -202,6 +202,108 @@ impl<D: Disk> Journal<D> {
                 },
             }),
         }
+    }
+
+    /// Appends payloads at once in four device calls, as many as for one. At `Ok` their records are synced: from then on each crash leaves
+    /// them all. `piece` is what comes after the first one's gate: their records, each but the first after an open gate, and a closed gate.
+    ///
+    /// `OutOfMemory` comes before the first device call. A journal whose disk has failed is gone, and must be loaded again.
+    pub fn append_all(self, piece: &[u8]) -> Result<Journal<D>, AppendErr<D>>
+        requires some { 1 ≤ length piece.now }
+        requires run { ∥ ((more : List (List ℕ)) × IsRunOf piece.now more) ∥₁ }
+        ensures done { IsTrue D.is_told → (payloads more : List (List ℕ)) →
+            KeepsJournal (D.kept (disk_of self)) payloads → IsRunOf piece.now more →
+            IfOk result (λ journal.
+            KeepsJournal (D.kept (disk_of journal)) (payloads ++ more)) }
+        ensures acknowledged { IsTrue D.is_told → (payloads more : List (List ℕ)) →
+            KeepsJournal (D.kept (disk_of self)) payloads → IsRunOf piece.now more →
+            IfOk result (λ journal. (image : List ℕ) → IsImage (D.kept (disk_of journal)) image →
+            StandsFor image (payloads ++ more)) }
+        ensures place { IfOk result (λ journal. place_of journal ≡
+            place_of self + length piece.now) }
+        ensures limit { IfOk result (λ journal. limit_of journal ≡ limit_of self) }
+        ensures superblock { IfOk result (λ journal. superblock_of journal ≡ superblock_of self) }
+
+        // A crash at any moment leaves the payloads from before the call, with all of the new ones or with none of them.
+        ensures any_moment { IsTrue D.is_told → (payloads more : List (List ℕ)) →
+            KeepsJournal (D.kept (disk_of self)) payloads → IsRunOf piece.now more →
+            LeavesOnly D.moment D.left_since (disk_of self) (disk_after_append result)
+            (IsWithAllOrNone payloads more) }
+        ensures broken { IsTrue D.is_told → (payloads more : List (List ℕ)) →
+            KeepsJournal (D.kept (disk_of self)) payloads → IsRunOf piece.now more →
+            IsSome (append_fault result) →
+            (image : List ℕ) → IsImage (D.kept (disk_after_append result)) image →
+            IsWithAllOrNone payloads more image }
+
+        // It fails exactly when one of its calls does, and which one that is decides what a crash leaves.
+        ensures stopped { IsTrue D.is_told → (payloads more : List (List ℕ)) →
+            KeepsJournal (D.kept (disk_of self)) payloads → IsRunOf piece.now more →
+            IsSome (append_fault result) →
+            AreStopped (superblock_of self) (D.fails (disk_of self)) (D.kept (disk_after_append result))
+            payloads more }
+        ensures succeeded { IsTrue D.is_told → OnOk result (AllSucceed (D.fails (disk_of self)) 4) }
+        ensures plan { IsTrue D.is_told →
+            OnOk result (GoesOn 0 4 (D.fails (disk_of self)) (D.fails (disk_after_append result))) }
+        ensures count { D.fault_count (disk_after_append result) ≡
+            fault_count_after (is_some (append_fault result)) (D.fault_count (disk_of self)) }
+        ensures fault { IfSome (append_fault result) (λ count. count ≡
+            D.fault_count (disk_after_append result)) }
+
+        ensures full { IsFullExactly self (place_of self + (1 + length piece.now)) result }
+        ensures memory { IfSome (without_memory result) (λ journal.
+            (D.kept (disk_of journal) ≡ D.kept (disk_of self))
+            × (place_of journal ≡ place_of self) × (limit_of journal ≡ limit_of self)
+            × (superblock_of journal ≡ superblock_of self)) }
+        ensures no_call { IsTrue D.is_told → IfSome (without_memory result) (λ journal.
+            GoesOn 0 0 (D.fails (disk_of self)) (D.fails (disk_of journal))) }
+    {
+        let need = match self.need_after(piece.len() as u64) {
+            Ok(need) => need,
+            Err(need) => {
+                return Err(AppendErr::Full {
+                    need,
+                    limit: self.limit,
+                    journal: self,
+                });
+            }
+        };
+        let Journal {
+            mut disk,
+            end,
+            limit,
+            superblock,
+        } = self;
+        match append_run(&mut disk, end, need, piece) {
+            Ok(()) => Ok(Journal {
+                disk,
+                end: need - 1,
+                limit,
+                superblock,
+            }),
+            Err(Refusal::Broken) => Err(AppendErr::Broken {
+                count: disk.faults(),
+                disk,
+            }),
+            Err(Refusal::OutOfMemory) => Err(AppendErr::OutOfMemory {
+                journal: Journal {
+                    disk,
+                    end,
+                    limit,
+                    superblock,
+                },
+            }),
+        }
+    }
+
+    /// How many bytes the journal needs for this many bytes of records more and the next gate; `Err` where they pass its limit, and then at
+    /// most `u64::MAX`.
+    pub fn need_after(&self, len: u64) -> Result<u64, u64>
+        ensures { MatchResult result
+            (λ need. (need ≡ place_of self.now + (1 + len)) × (need ≤ limit_of self.now) × (need < 2 ^ 64))
+            (λ need. (need ≡ counted (place_of self.now + (1 + len)))
+            × (limit_of self.now < place_of self.now + (1 + len))) }
+    {
+        need_after(self.end, len, self.limit)
     }
 
     /// The place of the closed gate where the next record goes.

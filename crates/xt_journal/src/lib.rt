@@ -17,5 +17,6 @@ mod swap;
 mod walk;
 
 pub use ahead::ReadAhead;
+pub use append::push_record;
 pub use errors::{AppendErr, LoadErr};
 pub use journal::Journal;

@@ -12,6 +12,7 @@ use Rattle.object_store.specs.Logs.{bare_in, places_in}
 use Rattle.object_store.specs.Places.{IsPair, place_of}
 use Rattle.object_store.specs.Texts.{texts_of}
 use Rattle.object_store.proofs.Filled.{pair_of_bare}
+use Rattle.object_store.proofs.Reading.{one_fits}
 use Rattle.object_store.proofs.Outcomes.{keeps_longer, stands_longer, place_with, room_with, over_with, need_with, left_with, stopped_with, moments_with, goes_on_itself}
 use Rattle.object_store.proofs.Stores.{put_known, put_kept, same_known, same_kept}
 use Rattle.object_store.proofs.store.Store.put.Goals as goal
@@ -56,7 +57,7 @@ returns-in-Ok-append g c =
     record {
       end = record {
         records =
-            put_known {g = D} c.in-Ok-append.journal c.put.new.self store rec bare_is places_is
+            put_known {g = D} c.in-Ok-append.journal c.put.new.self store (rec ∷ []) bare_is places_is
             (λ told. keeps_longer _ old (old ++ rec ∷ []) rec c.as_slice.result.now refl bytes (facts.done told (texts_of old) (store.keeps told))) facts.superblock;
         acknowledged = λ told image is. stands_longer image old rec c.as_slice.result.now bytes (facts.acknowledged told (texts_of old) (store.keeps told) image is);
         place = place_with _ _ bytes _ _ facts.place;
@@ -144,9 +145,9 @@ invariant_of-result g c =
     ∙ ap (λ (p : BodyPlace). places_in store.log ++ p ∷ [])
     (c.in-Ok.ensures.place ∙ ap (λ (gate : ℕ). place_of (record { gate = gate; bytes = record_text rec }) rec) c.end.ensures) in
     let kept =
-    put_kept {g = D} c.in-Ok-append.journal c.put.new.self store rec bare_is places_is
+    put_kept {g = D} c.in-Ok-append.journal c.put.new.self store (rec ∷ []) bare_is places_is
     (λ told. keeps_longer _ old (old ++ rec ∷ []) rec c.as_slice.result.now refl bytes (facts.done told (texts_of old) (store.keeps told))) facts.superblock
-    c.requires.fits c.requires.placed in
+    (one_fits rec c.requires.fits) (c.requires.placed, tt) in
     record { keeps = kept.keeps; laid = kept.laid; sound = kept.sound }
 
 pub invariant_of-store : goal.invariant_of-store
