@@ -23,7 +23,7 @@ use Rattle.forgetting.proofs.Rows.{Ascend}
 
 -- ---- held versions
 
-abbrev AreAbove : ObjectVersion → List ObjectVersion → Type 0
+abbrev pub AreAbove : ObjectVersion → List ObjectVersion → Type 0
 AreAbove v versions = AllByRecursion (λ (w : ObjectVersion). version_cmp v w ≡ Less) versions
 
 above_put : (h v : ObjectVersion) (hs : List ObjectVersion) → version_cmp h v ≡ Less → AreAbove h hs → AreAbove h (with_held hs v)
@@ -35,7 +35,7 @@ above_put h v (x ∷ xs) is all = at (version_cmp x v) refl (above_put h v xs is
     at Equal e rest = subst (AreAbove h) (sym (held-here x v xs e)) all
     at Greater e rest = subst (AreAbove h) (sym (held-before x v xs e)) (is, all)
 
-above_all : (v h : ObjectVersion) (hs : List ObjectVersion) → version_cmp v h ≡ Less → AreAbove h hs → AreAbove v hs
+pub above_all : (v h : ObjectVersion) (hs : List ObjectVersion) → version_cmp v h ≡ Less → AreAbove h hs → AreAbove v hs
 above_all v h [] is all = tt
 above_all v h (x ∷ xs) is all = (version_cmp_total.trans v h x is all.0, above_all v h xs is all.1)
 
@@ -75,7 +75,7 @@ pub record RowsRise (rows : List FileRow) : Type 0 where
   pub files : FilesRise rows
   pub each : AllByRecursion RowUp rows
 
-row_up : (rows : List FileRow) (file : FileId) → AllByRecursion RowUp rows → RowUp (row_in rows file)
+pub row_up : (rows : List FileRow) (file : FileId) → AllByRecursion RowUp rows → RowUp (row_in rows file)
 unfolding row_in
 row_up [] file all = tt
 row_up (r ∷ rs) file all = at (is_file r.file file) (row_up rs file all.1)

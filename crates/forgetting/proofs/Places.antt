@@ -11,12 +11,12 @@ use Rattle.xt_messages.specs.declared.record.Folded.{Folded}
 use Rattle.xt_messages.specs.declared.record.KeepBody.{KeepBody}
 use Rattle.xt_messages.specs.declared.record.Record.{Record}
 use Rattle.xt_messages.specs.declared.record.Record.TheVariants as kept
-use Rattle.xt_protocol.specs.Folds.{new_row, row_in, row_after, folded_after, is_logged, logged_of, widened, fold_of, IsInPlace, AreInPlace}
+use Rattle.xt_protocol.specs.Folds.{new_row, row_in, row_after, folded_after, digests_kept, is_logged, logged_of, widened, fold_of, IsInPlace, AreInPlace}
 use Rattle.xt_protocol.specs.Forgetting.{records_of_row, records_of_rows, row_without, rewritten}
 use Rattle.xt_protocol.specs.SeenBodies.{body_by}
 use Rattle.forgetting.specs.Rewritten.{NamedAreKept, AreInPlaceAgain}
 use Rattle.xt_protocol.proofs.FileRows.{FilesRise}
-use Rattle.forgetting.proofs.Rows.{Ascend, AreBefore, AreOf, some_records, last_new, read_new, read_last, before_head, each_before, before_are, before_says, Follow, follow_next, follow_none, row_says}
+use Rattle.forgetting.proofs.Rows.{Ascend, AreBefore, AreOf, some_records, last_new, read_new, read_last, unsealed, unsealed_are, unsealed_says, before_head, each_before, over_before, seal_folds, Follow, follow_next, follow_none, row_says}
 use Rattle.forgetting.proofs.Folded.{folds_rise, rise_without, up_without}
 use Rattle.forgetting.proofs.Said.{widened_fold}
 use Rattle.xt_protocol.proofs.Folds.{logged_widened, row_after-file}
@@ -53,9 +53,9 @@ easy_widened : (records : List Record) → AllByRecursion IsEasy (map widened (l
 unfolding logged_of
 easy_widened records = subst (AllByRecursion IsEasy) (logged_widened records) (easy_logged (map widened records))
 
-module _ (body : FileId → ℕ → Stamp → List ℕ) where
-  easy_before : (row : FileRow) → AllByRecursion IsEasy (before_head body row)
-  easy_before row = each_before body IsEasy row (λ location f. tt) (λ version f. tt) (λ v f. tt)
+module _ (body : FileId → ℕ → Stamp → List ℕ) (digests : FileId → ℕ → Stamp → List (List ℕ)) where
+  easy_before : (row : FileRow) → AllByRecursion IsEasy (before_head body digests row)
+  easy_before row = each_before body digests IsEasy row (λ location f. tt) (λ version f. tt) (λ v f. tt) (λ v digest f. tt)
 
   -- what some records of a file make of its row, after rows that come before it
   row_behind : (boot : Boot) (pre : List FileRow) (file : FileId) (xs : List Record) → AreBefore file pre → AreOf file xs
@@ -72,28 +72,30 @@ module _ (body : FileId → ℕ → Stamp → List ℕ) where
       last a is = ap (λ (k : FileId). row_in (pre ++ a ∷ []) k) (sym is) ∙ read_last pre a (subst (λ (k : FileId). AreBefore k pre) (sym is) before)
 
   row_there : (boot : Boot) (pre : List FileRow) (row : FileRow) → Ascend row.held → AreBefore row.file pre → All (Contains row.held) row.head.versions
-      → AreInPlace (record { boot = boot; files = pre }) (records_of_row body row)
+      → AreInPlace (record { boot = boot; files = pre }) (records_of_row body digests row)
   row_there boot pre row up before named =
-      join (record { boot = boot; files = pre }) (before_head body row) (kept.Head row.file row.head ∷ []) (easy_all (record { boot = boot; files = pre }) (before_head body row) (easy_before row)) (
+      let start : Folded = record { boot = boot; files = pre } in
+      join start (before_head body digests row) (kept.Head row.file row.head ∷ []) (easy_all start (before_head body digests row) (easy_before row)) (
         subst (λ (held : List ObjectVersion). All (Contains held) row.head.versions)
-            (sym (ap (λ (r : FileRow). r.held) (row_behind boot pre row.file (before_head body row) before (before_are body row) ∙ before_says body row up))) named,
+            (sym (ap (λ (f : Folded). (row_in f.files row.file).held) (over_before body digests folded_after seal_folds row start)
+            ∙ ap (λ (r : FileRow). r.held) (row_behind boot pre row.file (unsealed body row) before (unsealed_are body row) ∙ unsealed_says body row up))) named,
         tt,
       )
 
   abbrev AreNamed : List FileRow → Type 0
   AreNamed rows = AllByRecursion (λ (r : FileRow). All (Contains r.held) r.head.versions) rows
 
-  rows_there : (boot : Boot) (pre rows : List FileRow) → FilesRise rows → AllByRecursion (λ (r : FileRow). Ascend r.held) rows → Follow body pre rows → AreNamed rows
-      → AreInPlace (record { boot = boot; files = pre }) (records_of_rows body rows)
+  rows_there : (boot : Boot) (pre rows : List FileRow) → FilesRise rows → AllByRecursion (λ (r : FileRow). Ascend r.held) rows → Follow body digests pre rows → AreNamed rows
+      → AreInPlace (record { boot = boot; files = pre }) (records_of_rows body digests rows)
   rows_there boot pre [] rise up follow named = tt
   rows_there boot pre (r ∷ rs) rise up follow named =
-      join (record { boot = boot; files = pre }) (records_of_row body r) (records_of_rows body rs) (row_there boot pre r up.0 follow.0 named.0)
-      (subst (λ (f : Folded). AreInPlace f (records_of_rows body rs)) (sym (row_says body boot pre r up.0 follow.0))
-      (rows_there boot (pre ++ r ∷ []) rs rise.1 up.1 (follow_next body pre r rs follow.1 rise.0) named.1))
+      join (record { boot = boot; files = pre }) (records_of_row body digests r) (records_of_rows body digests rs) (row_there boot pre r up.0 follow.0 named.0)
+      (subst (λ (f : Folded). AreInPlace f (records_of_rows body digests rs)) (sym (row_says body digests boot pre r up.0 follow.0))
+      (rows_there boot (pre ++ r ∷ []) rs rise.1 up.1 (follow_next body digests pre r rs follow.1 rise.0) named.1))
 
   pub all_there : (boot : Boot) (rows : List FileRow) → FilesRise rows → AllByRecursion (λ (r : FileRow). Ascend r.held) rows → AreNamed rows
-      → AreInPlace (record { boot = boot; files = [] }) (records_of_rows body rows)
-  all_there boot rows rise up named = rows_there boot [] rows rise up (follow_none body rows) named
+      → AreInPlace (record { boot = boot; files = [] }) (records_of_rows body digests rows)
+  all_there boot rows rise up named = rows_there boot [] rows rise up (follow_none body digests rows) named
 
 named_without : (keep : List KeepBody) (rows : List FileRow) → NamedAreKept keep rows → AllByRecursion (λ (r : FileRow). All (Contains r.held) r.head.versions) (map (row_without keep) rows)
 named_without keep [] named = tt
@@ -107,7 +109,7 @@ there keep records named =
     let rows = map (row_without keep) f.files in
     let rise = folds_rise records in (
       tt,
-      join start (map widened (logged_of records)) (records_of_rows (body_by records) rows) (easy_all start (map widened (logged_of records)) (easy_widened records))
-          (subst (λ (g : Folded). AreInPlace g (records_of_rows (body_by records) rows)) (sym (widened_fold records start))
-          (all_there (body_by records) f.boot rows (rise_without keep f.files rise.files) (up_without keep f.files rise.each) (named_without keep f.files named))),
+      join start (map widened (logged_of records)) (records_of_rows (body_by records) (digests_kept records) rows) (easy_all start (map widened (logged_of records)) (easy_widened records))
+          (subst (λ (g : Folded). AreInPlace g (records_of_rows (body_by records) (digests_kept records) rows)) (sym (widened_fold records start))
+          (all_there (body_by records) (digests_kept records) f.boot rows (rise_without keep f.files rise.files) (up_without keep f.files rise.each) (named_without keep f.files named))),
     )

@@ -2,6 +2,7 @@
 use Rattle.std.proofs.Common.{◌≡◌, ℕ, Bool, true, false, cond, List, [], ◌∷◌, ◌++◌, Option, Some, None, refl, ap, sym, subst, ◌∙◌, map, append_assoc, append-nil}
 use Rattle.std.proofs.lemmas.List.Sums.{fold-append}
 use Rattle.std.specs.List.{fold, AllByRecursion}
+use Rattle.std.specs.Prelude.{flat_map}
 use Rattle.std.specs.Ordering.{is_eq, is_lt}
 use Rattle.std.specs.declared.cmp.Ordering.{Ordering}
 use Rattle.std.specs.declared.cmp.Ordering.TheVariants.{Less, Equal, Greater}
@@ -18,13 +19,14 @@ use Rattle.xt_messages.specs.declared.record.Record.TheVariants as kept
 use Rattle.xt_protocol.specs.FileIds.{is_before, file_cmp}
 use Rattle.xt_protocol.specs.Folds.{new_row, row_in, with_row, without_row, row_after, rows_after, file_of, forgets, folded_after}
 use Rattle.xt_protocol.specs.Heads.{new_head}
-use Rattle.xt_protocol.specs.Forgetting.{view_of, close_of, stage_of, records_of_row, records_of_rows}
+use Rattle.xt_protocol.specs.Forgetting.{view_of, close_of, stage_of, seals_of, sealed_stage_of, records_of_row, records_of_rows}
 use Rattle.xt_protocol.specs.Stamps.{with_held}
 use Rattle.xt_protocol.specs.VersionOrder.{version_cmp}
 use Rattle.xt_protocol.proofs.Folds.{file-itself, is_file-file_cmp, row_after-file}
 use Rattle.xt_protocol.proofs.Sorts.{no_boot}
 use Rattle.xt_protocol.proofs.Stamps.{held-alone, held-behind}
 use Rattle.xt_protocol.proofs.FileRows.{FilesRise, put_behind, put_over, read_behind, read_here}
+use Rattle.forgetting.proofs.Passing.{over_digests}
 
 pub is_less : (o : Ordering) → is_lt o ≡ true → o ≡ Less
 is_less Less h = refl
@@ -156,18 +158,14 @@ module _ (body : FileId → ℕ → Stamp → List ℕ) where
   all_below_none [] = tt
   all_below_none (v ∷ vs) = (tt, all_below_none vs)
 
-  -- the list, which list is closed, and the bodies of a row
-  abbrev pub before_head : FileRow → List Record
-  before_head row = view_of row.file row.location ++ close_of row.file row.closed ++ map (stage_of body row.file) row.held
+  -- the list, which list is closed, and the bodies of a row, without their digests
+  abbrev pub unsealed : FileRow → List Record
+  unsealed row = view_of row.file row.location ++ close_of row.file row.closed ++ map (stage_of body row.file) row.held
 
   -- what holds of a record of each of these kinds, holds of them
-  pub each_before : (P : Record → Type 0) (row : FileRow)
-      → ((location : Location) → P (kept.View row.file location)) → ((version : ℕ) → P (kept.Close row.file version)) → ((v : ObjectVersion) → P (stage_of body row.file v))
-      → AllByRecursion P (before_head row)
-  each_before P row view close stage =
-      all_append P (view_of row.file row.location ++ close_of row.file row.closed) (map (stage_of body row.file) row.held)
-      (all_append P (view_of row.file row.location) (close_of row.file row.closed) (viewed row.location) (closed row.closed))
-      (staged row.held)
+  listed_each : (P : Record → Type 0) (row : FileRow) → ((location : Location) → P (kept.View row.file location)) → ((version : ℕ) → P (kept.Close row.file version))
+      → AllByRecursion P (view_of row.file row.location ++ close_of row.file row.closed)
+  listed_each P row view close = all_append P (view_of row.file row.location) (close_of row.file row.closed) (viewed row.location) (closed row.closed)
     where
       viewed : (o : Option Location) → AllByRecursion P (view_of row.file o)
       viewed None = tt
@@ -177,22 +175,15 @@ module _ (body : FileId → ℕ → Stamp → List ℕ) where
       closed None = tt
       closed (Some version) = (close version, tt)
 
-      staged : (held : List ObjectVersion) → AllByRecursion P (map (stage_of body row.file) held)
+  pub unsealed_are : (row : FileRow) → AreOf row.file (unsealed row)
+  unsealed_are row =
+      all_append (IsOf row.file) (view_of row.file row.location ++ close_of row.file row.closed) (map (stage_of body row.file) row.held)
+      (listed_each (IsOf row.file) row (λ location. (refl, refl)) (λ version. (refl, refl)))
+      (staged row.held)
+    where
+      staged : (held : List ObjectVersion) → AllByRecursion (IsOf row.file) (map (stage_of body row.file) held)
       staged [] = tt
-      staged (v ∷ vs) = (stage v, staged vs)
-
-  -- and of the records of rows, where it holds of a head's too
-  pub each_of_rows : (P : Record → Type 0) → ((file : FileId) (location : Location) → P (kept.View file location)) → ((file : FileId) (version : ℕ) → P (kept.Close file version))
-      → ((file : FileId) (v : ObjectVersion) → P (stage_of body file v)) → ((file : FileId) (head : FileHead) → P (kept.Head file head))
-      → (rows : List FileRow) → AllByRecursion P (records_of_rows body rows)
-  each_of_rows P view close stage head [] = tt
-  each_of_rows P view close stage head (r ∷ rs) =
-      all_append P (records_of_row body r) (records_of_rows body rs)
-      (all_append P (before_head r) (kept.Head r.file r.head ∷ []) (each_before P r (view r.file) (close r.file) (stage r.file)) (head r.file r.head, tt))
-      (each_of_rows P view close stage head rs)
-
-  pub before_are : (row : FileRow) → AreOf row.file (before_head row)
-  before_are row = each_before (IsOf row.file) row (λ location. (refl, refl)) (λ version. (refl, refl)) (λ v. (refl, refl))
+      staged (v ∷ vs) = ((refl, refl), staged vs)
 
   -- a row in which only the list is there, and which one is closed
   abbrev pub listed : FileId → Option Location → Option ℕ → FileRow
@@ -206,20 +197,85 @@ module _ (body : FileId → ℕ → Stamp → List ℕ) where
   opened file (Some location) (Some version) = refl
 
   -- what is there before the head
-  pub before_says : (row : FileRow) → Ascend row.held → fold row_after (new_row row.file) (before_head row) ≡ record row { head = new_head }
-  before_says row up =
+  pub unsealed_says : (row : FileRow) → Ascend row.held → fold row_after (new_row row.file) (unsealed row) ≡ record row { head = new_head }
+  unsealed_says row up =
       fold-append row_after (new_row row.file) (view_of row.file row.location ++ close_of row.file row.closed) (map (stage_of body row.file) row.held)
       ∙ ap (λ (r : FileRow). fold row_after r (map (stage_of body row.file) row.held)) (opened row.file row.location row.closed)
       ∙ staged_all (listed row.file row.location row.closed) [] row.held (all_below_none row.held) up
 
+-- ---- with the digests
+
+-- a digest leaves what is folded
+pub seal_folds : (f : Folded) (file : FileId) (object : ℕ) (version : Stamp) (digest : List ℕ) → folded_after f (kept.Seal file object version digest) ≡ f
+seal_folds f file object version digest = refl
+
+module _ (body : FileId → ℕ → Stamp → List ℕ) (digests : FileId → ℕ → Stamp → List (List ℕ)) where
+  -- the list, which list is closed, and the bodies of a row, each with its digests
+  abbrev pub before_head : FileRow → List Record
+  before_head row = view_of row.file row.location ++ close_of row.file row.closed ++ flat_map (sealed_stage_of body digests row.file) row.held
+
+  -- what holds of a body and of its digests where something is known of the version, holds of all where this is known of all
+  pub each_sealed : (P : Record → Type 0) (Q : ObjectVersion → Type 0) (file : FileId) → ((v : ObjectVersion) → Q v → P (stage_of body file v))
+      → ((v : ObjectVersion) → Q v → AllByRecursion P (seals_of digests file v)) → (held : List ObjectVersion) → AllByRecursion Q held
+      → AllByRecursion P (flat_map (sealed_stage_of body digests file) held)
+  each_sealed P Q file stage seals [] all = tt
+  each_sealed P Q file stage seals (v ∷ vs) all =
+      (stage v all.0, all_append P (seals_of digests file v) (flat_map (sealed_stage_of body digests file) vs) (seals v all.0) (each_sealed P Q file stage seals vs all.1))
+
+  -- what holds of a record of each of these kinds, holds of what is there before the head
+  pub each_before : (P : Record → Type 0) (row : FileRow)
+      → ((location : Location) → P (kept.View row.file location)) → ((version : ℕ) → P (kept.Close row.file version)) → ((v : ObjectVersion) → P (stage_of body row.file v))
+      → ((v : ObjectVersion) (digest : List ℕ) → P (kept.Seal row.file v.object v.version digest)) → AllByRecursion P (before_head row)
+  each_before P row view close stage seal =
+      all_append P (view_of row.file row.location ++ close_of row.file row.closed) (flat_map (sealed_stage_of body digests row.file) row.held)
+      (listed_each body P row view close)
+      (each_sealed P (λ v. Unit {0}) row.file (λ v known. stage v) (λ v known. sealed v (digests row.file v.object v.version)) row.held (nothing row.held))
+    where
+      sealed : (v : ObjectVersion) (each : List (List ℕ)) → AllByRecursion P (map (λ digest. kept.Seal row.file v.object v.version digest) each)
+      sealed v [] = tt
+      sealed v (d ∷ ds) = (seal v d, sealed v ds)
+
+      nothing : (held : List ObjectVersion) → AllByRecursion (λ (v : ObjectVersion). Unit {0}) held
+      nothing [] = tt
+      nothing (v ∷ vs) = (tt, nothing vs)
+
+  -- and of the records of rows, where it holds of a head's too
+  pub each_of_rows : (P : Record → Type 0) → ((file : FileId) (location : Location) → P (kept.View file location)) → ((file : FileId) (version : ℕ) → P (kept.Close file version))
+      → ((file : FileId) (v : ObjectVersion) → P (stage_of body file v)) → ((file : FileId) (v : ObjectVersion) (digest : List ℕ) → P (kept.Seal file v.object v.version digest))
+      → ((file : FileId) (head : FileHead) → P (kept.Head file head)) → (rows : List FileRow) → AllByRecursion P (records_of_rows body digests rows)
+  each_of_rows P view close stage seal head [] = tt
+  each_of_rows P view close stage seal head (r ∷ rs) =
+      all_append P (records_of_row body digests r) (records_of_rows body digests rs)
+      (all_append P (before_head r) (kept.Head r.file r.head ∷ []) (each_before P r (view r.file) (close r.file) (stage r.file) (seal r.file)) (head r.file r.head, tt))
+      (each_of_rows P view close stage seal head rs)
+
+  -- a fold that passes over digests makes the same without them
+  pub over_before : {A : Type 0} (step : A → Record → A)
+      → ((a : A) (file : FileId) (object : ℕ) (version : Stamp) (digest : List ℕ) → step a (kept.Seal file object version digest) ≡ a)
+      → (row : FileRow) (a : A) → fold step a (before_head row) ≡ fold step a (unsealed body row)
+  over_before step over row a =
+      let lists = view_of row.file row.location ++ close_of row.file row.closed in
+      fold-append step a lists (flat_map (sealed_stage_of body digests row.file) row.held)
+      ∙ over_digests step over body digests row.file row.held (fold step a lists)
+      ∙ sym (fold-append step a lists (map (stage_of body row.file) row.held))
+
+  pub over_row : {A : Type 0} (step : A → Record → A)
+      → ((a : A) (file : FileId) (object : ℕ) (version : Stamp) (digest : List ℕ) → step a (kept.Seal file object version digest) ≡ a)
+      → (row : FileRow) (a : A) → fold step a (records_of_row body digests row) ≡ fold step a (unsealed body row ++ kept.Head row.file row.head ∷ [])
+  over_row {A} step over row a =
+      fold-append step a (before_head row) (kept.Head row.file row.head ∷ [])
+      ∙ ap (λ (b : A). fold step b (kept.Head row.file row.head ∷ [])) (over_before step over row a)
+      ∙ sym (fold-append step a (unsealed body row) (kept.Head row.file row.head ∷ []))
+
   -- the records of a row fold to it, after rows that come before it
   pub row_says : (boot : Boot) (pre : List FileRow) (row : FileRow) → Ascend row.held → AreBefore row.file pre
-      → fold folded_after (record { boot = boot; files = pre }) (records_of_row body row) ≡ record { boot = boot; files = pre ++ row ∷ [] }
+      → fold folded_after (record { boot = boot; files = pre }) (records_of_row body digests row) ≡ record { boot = boot; files = pre ++ row ∷ [] }
   row_says boot pre row up before =
-      ending boot pre row.file (before_head row) (kept.Head row.file row.head) (before_are row) (refl, refl) before
+      over_row folded_after seal_folds row (record { boot = boot; files = pre })
+      ∙ ending boot pre row.file (unsealed body row) (kept.Head row.file row.head) (unsealed_are body row) (refl, refl) before
       ∙ ap (λ (r : FileRow). record { boot = boot; files = pre ++ r ∷ [] })
-      (fold-append row_after (new_row row.file) (before_head row) (kept.Head row.file row.head ∷ [])
-      ∙ ap (λ (r : FileRow). record r { head = row.head }) (before_says row up))
+      (fold-append row_after (new_row row.file) (unsealed body row) (kept.Head row.file row.head ∷ [])
+      ∙ ap (λ (r : FileRow). record r { head = row.head }) (unsealed_says body row up))
 
   -- ---- all rows
 
@@ -235,11 +291,11 @@ module _ (body : FileId → ℕ → Stamp → List ℕ) where
   follow_next pre r (x ∷ xs) all first = (before_next pre r x.file all.0 (is_less (file_cmp r.file x.file) first.0), follow_next pre r xs all.1 first.1)
 
   rows_say : (boot : Boot) (pre rows : List FileRow) → FilesRise rows → AllByRecursion (λ (r : FileRow). Ascend r.held) rows → Follow pre rows
-      → fold folded_after (record { boot = boot; files = pre }) (records_of_rows body rows) ≡ record { boot = boot; files = pre ++ rows }
+      → fold folded_after (record { boot = boot; files = pre }) (records_of_rows body digests rows) ≡ record { boot = boot; files = pre ++ rows }
   rows_say boot pre [] rise up follow = ap (λ (fs : List FileRow). record { boot = boot; files = fs }) (sym (append-nil pre))
   rows_say boot pre (r ∷ rs) rise up follow =
-      fold-append folded_after (record { boot = boot; files = pre }) (records_of_row body r) (records_of_rows body rs)
-      ∙ ap (λ (f : Folded). fold folded_after f (records_of_rows body rs)) (row_says boot pre r up.0 follow.0)
+      fold-append folded_after (record { boot = boot; files = pre }) (records_of_row body digests r) (records_of_rows body digests rs)
+      ∙ ap (λ (f : Folded). fold folded_after f (records_of_rows body digests rs)) (row_says boot pre r up.0 follow.0)
       ∙ rows_say boot (pre ++ r ∷ []) rs rise.1 up.1 (follow_next pre r rs follow.1 rise.0)
       ∙ ap (λ (fs : List FileRow). record { boot = boot; files = fs }) (append_assoc pre (r ∷ []) rs)
 
@@ -249,5 +305,5 @@ module _ (body : FileId → ℕ → Stamp → List ℕ) where
 
   -- The records of rows that rise fold to them.
   pub all_say : (boot : Boot) (rows : List FileRow) → FilesRise rows → AllByRecursion (λ (r : FileRow). Ascend r.held) rows
-      → fold folded_after (record { boot = boot; files = [] }) (records_of_rows body rows) ≡ record { boot = boot; files = rows }
+      → fold folded_after (record { boot = boot; files = [] }) (records_of_rows body digests rows) ≡ record { boot = boot; files = rows }
   all_say boot rows rise up = rows_say boot [] rows rise up (follow_none rows)

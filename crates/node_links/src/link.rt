@@ -66,7 +66,7 @@ pub trait Link {
         ensures losses { loss_count self.new ≡
             fault_count_after (is_err result) (loss_count self.old) };
 
-    /// The next datagram, for which it waits so many milliseconds at most.
+    /// The next datagram, for which it waits this many milliseconds at most. With 0 it doesn't wait: it gives one that is there already.
     fn receive(&mut self, wait: u64, buf: &mut [u8]) -> Result<Got, Failed>
         requires { 65536 ≤ length buf.old }
         ensures long { length buf.new ≡ length buf.old }

@@ -10,6 +10,9 @@ use std::os::fd::AsRawFd;
 use std::time::Duration;
 use xt_base::{Address, Failed};
 
+/// Flags of a receive: the datagram stays, and the call doesn't wait for one.
+const PEEK_AT_ONCE: i32 = libc::net::MSG_PEEK | libc::net::MSG_DONTWAIT;
+
 /// A UDP socket. What it gives and takes isn't known.
 #[derive(Drop)]
 pub struct UdpLink<R: Net> {
@@ -73,6 +76,12 @@ fn bound<R: Net>(rt: &R, address: &str) -> io::Result<UdpSocket> {
     Ok(socket)
 }
 
+/// Whether a datagram is there, which stays. It doesn't wait. Where it fails, none is there, and the next receive that waits fails too.
+fn is_there(socket: &UdpSocket) -> bool {
+    let mut first = [0u8; 1];
+    unsafe { libc::net::recv(socket.as_raw_fd(), &mut first, PEEK_AT_ONCE) >= 0 }
+}
+
 fn received(
     alloc: Global,
     socket: &Option<UdpSocket>,
@@ -86,8 +95,11 @@ fn received(
     let Some(socket) = socket else {
         return Err(ErrorKind::NotConnected.into());
     };
-    let wait = wait.max(1);
-    if *waits != wait {
+    if wait == 0 {
+        if !is_there(socket) {
+            return Ok(Got::NothingYet);
+        }
+    } else if *waits != wait {
         socket.set_read_timeout(Some(Duration::from_millis(wait)))?;
         *waits = wait;
     }

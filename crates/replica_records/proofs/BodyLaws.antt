@@ -8,7 +8,7 @@ use Rattle.xt_messages.specs.declared.file.Update.{Update}
 use Rattle.xt_messages.specs.declared.record.Folded.{Folded}
 use Rattle.xt_messages.specs.declared.record.Record.{Record}
 use Rattle.xt_messages.specs.declared.record.Record.TheVariants as kept
-use Rattle.xt_protocol.specs.Folds.{boot_after, folded_after, is_logged, IsInPlace}
+use Rattle.xt_protocol.specs.Folds.{boot_after, digests_after, folded_after, is_logged, IsInPlace}
 use Rattle.replica_records.specs.declared.places.BodyKey.{BodyKey}
 use Rattle.replica_records.specs.Bare.{body_in, with_body}
 use Rattle.replica_records.specs.Places.{key_put}
@@ -70,6 +70,11 @@ folded_set folded = unseen (λ r s. folded_after folded r ≡ folded_after folde
 
 pub boot_set : (boot : ℕ) (body : List ℕ) (rec : Record) → boot_after boot (with_body body rec) ≡ boot_after boot rec
 boot_set boot = unseen (λ r s. boot_after boot r ≡ boot_after boot s)
+    (λ file update body. refl) (λ file object version bytes body. refl) (λ file update body. refl) (λ file object version bytes body. refl) (λ rec. refl)
+
+pub digests_set : (file : FileId) (object : ℕ) (version : Stamp) (digests : List (List ℕ)) (body : List ℕ) (rec : Record)
+    → digests_after file object version digests (with_body body rec) ≡ digests_after file object version digests rec
+digests_set file object version digests = unseen (λ r s. digests_after file object version digests r ≡ digests_after file object version digests s)
     (λ file update body. refl) (λ file object version bytes body. refl) (λ file update body. refl) (λ file object version bytes body. refl) (λ rec. refl)
 
 pub logged_set : (body : List ℕ) (rec : Record) → is_logged (with_body body rec) ≡ is_logged rec

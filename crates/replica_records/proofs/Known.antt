@@ -1,7 +1,7 @@
 -- What is known of records on a disk says what they say, stands in the same places and is as long. Where the disk's contents are known, it is these
 -- very records.
 use Rattle.std.proofs.Common.{◌≡◌, ◌==◌, ℕ, suc, Bool, true, false, cond, List, [], ◌∷◌, ◌++◌, length, map, replicate, Option, Some, None, unwrap_or, refl, ap, sym, subst, ◌∙◌, zero, arith}
-use Rattle.std.specs.Prelude.{◌<◌, filter, slice_index}
+use Rattle.std.specs.Prelude.{◌<◌, filter, flat_map, slice_index}
 use Rattle.std.specs.List.{fold}
 use Rattle.std.specs.Option.{option_map}
 use Rattle.std.specs.Ordering.{is_eq}
@@ -19,9 +19,9 @@ use Rattle.xt_messages.specs.declared.record.Folded.{Folded}
 use Rattle.xt_messages.specs.declared.record.KeepBody.{KeepBody}
 use Rattle.xt_messages.specs.declared.record.Record.{Record}
 use Rattle.xt_messages.specs.declared.record.Record.TheVariants as kept
-use Rattle.xt_protocol.specs.Folds.{folded_after, nothing_kept, fold_of, is_logged, logged_of, widened, IsInPlace, AreInPlace, body_put, newer, body_after, body_kept}
+use Rattle.xt_protocol.specs.Folds.{folded_after, nothing_kept, fold_of, is_logged, logged_of, widened, IsInPlace, AreInPlace, body_put, newer, body_after, body_kept, digests_after, digests_kept}
 use Rattle.xt_protocol.proofs.Folds.{logged_widened}
-use Rattle.xt_protocol.specs.Forgetting.{row_without, view_of, close_of, stage_of, records_of_row, records_of_rows, rewritten}
+use Rattle.xt_protocol.specs.Forgetting.{row_without, view_of, close_of, stage_of, seals_of, sealed_stage_of, records_of_row, records_of_rows, rewritten}
 use Rattle.xt_protocol.specs.SeenBodies.{body_by}
 use Rattle.replica_records.specs.RecordText.{record_text}
 use Rattle.replica_records.specs.declared.places.BodyKey.{BodyKey}
@@ -29,7 +29,7 @@ use Rattle.replica_records.specs.Bare.{body_in, with_body}
 use Rattle.replica_records.specs.Fronts.{front_text}
 use Rattle.replica_records.specs.Places.{body_cmp, key_put}
 use Rattle.replica_records.specs.Known.{without_body, as_known, known_of, Sees}
-use Rattle.replica_records.proofs.BodyLaws.{fold_map, folded_set, get_made, in_place_set, key_set, of_requests, put_back, requests_of, set_back, set_set}
+use Rattle.replica_records.proofs.BodyLaws.{digests_set, fold_map, folded_set, get_made, in_place_set, key_set, of_requests, put_back, requests_of, set_back, set_set}
 use Rattle.replica_records.proofs.FrontText.{front_and_own, front_then_body}
 use Rattle.replica_records.proofs.Placing.{put_for, put_is}
 
@@ -244,6 +244,14 @@ pub length_known : (told : Bool) (records : List Record) (file : FileId) (object
     → option_map length (body_kept (known_of told records) file object version) ≡ option_map length (body_kept records file object version)
 length_known told records file object version = length_of_known file object version told records
 
+-- ---- digests
+
+-- they don't depend on bodies
+digests_without : (records : List Record) → digests_kept (known_of false records) ≡ digests_kept records
+unfolding digests_kept
+digests_without records = λ i file object version.
+    fold_map (digests_after file object version) (as_known false) (λ digests rec. digests_set file object version digests (zeros (body_in rec)) rec) [] records i
+
 -- ---- other records that say what they say
 
 view_without : (file : FileId) (location : Option Location) → known_of false (view_of file location) ≡ view_of file location
@@ -254,18 +262,36 @@ close_without : (file : FileId) (closed : Option ℕ) → known_of false (close_
 close_without file None = refl
 close_without file (Some version) = refl
 
-module _ (records : List Record) where
-  stages_without : (file : FileId) (held : List ObjectVersion)
-      → known_of false (map (stage_of (body_by records) file) held) ≡ map (stage_of (body_by (known_of false records)) file) held
-  stages_without file [] = refl
-  stages_without file (v ∷ vs) = λ i.
-      kept.Stage file v.object v.version (sym (body_by_without file v.object v.version records) i) ∷ stages_without file vs i
+seals_without : (digests : FileId → ℕ → Stamp → List (List ℕ)) (file : FileId) (v : ObjectVersion) → known_of false (seals_of digests file v) ≡ seals_of digests file v
+seals_without digests file v = at (digests file v.object v.version)
+  where
+    at : (ds : List (List ℕ))
+        → known_of false (map (λ digest. kept.Seal file v.object v.version digest) ds) ≡ map (λ digest. kept.Seal file v.object v.version digest) ds
+    at [] = refl
+    at (d ∷ ds) = λ i. kept.Seal file v.object v.version d ∷ at ds i
 
-  row_without_bodies : (row : FileRow) → known_of false (records_of_row (body_by records) row) ≡ records_of_row (body_by (known_of false records)) row
+module _ (records : List Record) (digests : FileId → ℕ → Stamp → List (List ℕ)) where
+  -- the bodies with zeros for their bytes
+  abbrev zeroed : FileId → ℕ → Stamp → List ℕ
+  zeroed = body_by (known_of false records)
+
+  stages_without : (file : FileId) (held : List ObjectVersion)
+      → known_of false (flat_map (sealed_stage_of (body_by records) digests file) held) ≡ flat_map (sealed_stage_of zeroed digests file) held
+  stages_without file [] = refl
+  stages_without file (v ∷ vs) =
+      let after = flat_map (sealed_stage_of (body_by records) digests file) vs in
+      let begun : known_of false (sealed_stage_of (body_by records) digests file v ++ after) ≡ stage_of zeroed file v ∷ known_of false (seals_of digests file v) ++ known_of false after =
+      λ i. kept.Stage file v.object v.version (sym (body_by_without file v.object v.version records) i) ∷ map-append without_body (seals_of digests file v) after i
+      in
+      begun
+      ∙ ap (λ l. stage_of zeroed file v ∷ l ++ known_of false after) (seals_without digests file v)
+      ∙ ap (λ l. sealed_stage_of zeroed digests file v ++ l) (stages_without file vs)
+
+  row_without_bodies : (row : FileRow) → known_of false (records_of_row (body_by records) digests row) ≡ records_of_row zeroed digests row
   row_without_bodies row =
       let view = view_of row.file row.location in
       let close = close_of row.file row.closed in
-      let stages = map (stage_of (body_by records) row.file) row.held in
+      let stages = flat_map (sealed_stage_of (body_by records) digests row.file) row.held in
       let end = kept.Head row.file row.head ∷ [] in
       map-append without_body (view ++ close ++ stages) end
       ∙ ap (λ l. l ++ end) (map-append without_body (view ++ close) stages)
@@ -275,26 +301,28 @@ module _ (records : List Record) where
       ∙ ap (λ l. view ++ close ++ l ++ end) (stages_without row.file row.held)
 
   rows_without_bodies : (rows : List FileRow)
-      → known_of false (records_of_rows (body_by records) rows) ≡ records_of_rows (body_by (known_of false records)) rows
+      → known_of false (records_of_rows (body_by records) digests rows) ≡ records_of_rows zeroed digests rows
   rows_without_bodies [] = refl
   rows_without_bodies (row ∷ rows) =
-      map-append without_body (records_of_row (body_by records) row) (records_of_rows (body_by records) rows)
-      ∙ ap (λ l. l ++ known_of false (records_of_rows (body_by records) rows)) (row_without_bodies row)
-      ∙ ap (λ l. records_of_row (body_by (known_of false records)) row ++ l) (rows_without_bodies rows)
+      map-append without_body (records_of_row (body_by records) digests row) (records_of_rows (body_by records) digests rows)
+      ∙ ap (λ l. l ++ known_of false (records_of_rows (body_by records) digests rows)) (row_without_bodies row)
+      ∙ ap (λ l. records_of_row zeroed digests row ++ l) (rows_without_bodies rows)
 
 rewritten_without : (keep : List KeepBody) (records : List Record) → known_of false (rewritten keep records) ≡ rewritten keep (known_of false records)
 unfolding rewritten
 rewritten_without keep records =
     let unknown = known_of false records in
     let rows = map (row_without keep) (fold_of records).files in
-    let said : Folded → List Record → List Record = λ folded logged.
-    kept.Boot folded.boot ∷ map widened logged ++ records_of_rows (body_by unknown) (map (row_without keep) folded.files)
+    let said : Folded → List Record → (FileId → ℕ → Stamp → List (List ℕ)) → List Record = λ folded logged digests.
+    kept.Boot folded.boot ∷ map widened logged ++ records_of_rows (body_by unknown) digests (map (row_without keep) folded.files)
     in
     ap (λ l. kept.Boot (fold_of records).boot ∷ l)
-    (map-append without_body (map widened (logged_of records)) (records_of_rows (body_by records) rows)
-    ∙ ap (λ l. l ++ known_of false (records_of_rows (body_by records) rows)) (known_widened records)
-    ∙ ap (λ l. map widened (logged_of records) ++ l) (rows_without_bodies records rows))
-    ∙ sym (ap (λ f. said f (logged_of unknown)) (fold_known false records) ∙ ap (said (fold_of records)) (logged_known false records))
+    (map-append without_body (map widened (logged_of records)) (records_of_rows (body_by records) (digests_kept records) rows)
+    ∙ ap (λ l. l ++ known_of false (records_of_rows (body_by records) (digests_kept records) rows)) (known_widened records)
+    ∙ ap (λ l. map widened (logged_of records) ++ l) (rows_without_bodies records (digests_kept records) rows))
+    ∙ sym (ap (λ f. said f (logged_of unknown) (digests_kept unknown)) (fold_known false records)
+    ∙ ap (λ logged. said (fold_of records) logged (digests_kept unknown)) (logged_known false records)
+    ∙ ap (said (fold_of records) (logged_of records)) (digests_without records))
 
 -- the records that say the same are known as much as these
 pub rewritten_known : (told : Bool) (keep : List KeepBody) (records : List Record)

@@ -66,6 +66,10 @@ status_words (status.Broken clause entry) = codes "broken" ∷ decimal clause �
 status_words (status.Damaged place) = codes "damaged" ∷ decimal place ∷ []
 status_words (status.Retry answers) = codes "retry" ∷ answer_words answers
 status_words (status.Refused why) = codes "refused" ∷ refusal_words why
+status_words (status.Unmended count) = codes "unmended" ∷ decimal count ∷ []
+status_words (status.Moved count) = codes "moved" ∷ decimal count ∷ []
+status_words status.NotReplicated = codes "notreplicated" ∷ []
+status_words (status.PinStore pins) = codes "pins" ∷ decimal pins ∷ []
 
 -- the last line of a job, without the line feed that ends it
 abbrev pub status_text : Status → List ℕ

@@ -128,6 +128,10 @@ fn push_status(out: &mut Vec<u8>, status: &Status) -> Result<(), OutOfMemory>
         Status::Damaged { place } => push_counted(out, b"damaged", *place),
         Status::Retry { answers } => push_retries(out, answers.as_slice()),
         Status::Refused { rule } => push_refused(out, rule),
+        Status::Unmended { count } => push_counted(out, b"unmended", *count),
+        Status::Moved { count } => push_counted(out, b"moved", *count),
+        Status::NotReplicated => push_lone(out, b"notreplicated"),
+        Status::PinStore { pins } => push_counted(out, b"pins", *pins),
     }
 }
 

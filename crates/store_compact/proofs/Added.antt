@@ -1,6 +1,6 @@
 -- records that are put after others, with bodies that are copied from a store
 use Rattle.std.proofs.Common.{◌≡◌, ◌+◌, ◌<◌, ℕ, true, false, cond, Bool, inl, List, [], ◌∷◌, ◌++◌, length, map, take, get_or, Option, Some, None, refl, sym, ◌∙◌, ap, subst, append_assoc}
-use Rattle.std.specs.Prelude.{filter}
+use Rattle.std.specs.Prelude.{filter, flat_map}
 use Rattle.std.specs.List.{All, AllByRecursion}
 use Rattle.std.proofs.lemmas.Bool.{cond-true}
 use Rattle.std.proofs.lemmas.List.{flat_map_more, map-append, take_more}
@@ -15,7 +15,7 @@ use Rattle.xt_messages.specs.declared.record.Folded.{Folded}
 use Rattle.xt_messages.specs.declared.record.KeepBody.{KeepBody}
 use Rattle.xt_messages.specs.declared.record.Record.{Record}
 use Rattle.xt_messages.specs.declared.record.Record.TheVariants as kept
-use Rattle.xt_protocol.specs.Folds.{fold_of, is_logged, logged_of, widened}
+use Rattle.xt_protocol.specs.Folds.{digests_after, digests_kept, fold_of, is_logged, logged_of, widened}
 use Rattle.xt_protocol.proofs.Folds.{logged_widened}
 use Rattle.xt_protocol.specs.Forgetting.{close_of, records_of_row, records_of_rows, rewritten, row_without, view_of}
 use Rattle.xt_protocol.specs.SeenBodies.{body_by}
@@ -24,8 +24,10 @@ use Rattle.object_store.specs.declared.store.Store.{Store}
 use Rattle.object_store.specs.Access.{disk_of, records_of}
 use Rattle.object_store.specs.Bare.{bare_of}
 use Rattle.object_store.specs.Places.{bytes_at}
-use Rattle.replica_records.proofs.BodyLaws.{PutsNone, request_none}
-use Rattle.object_store.proofs.BareFolds.{fold_bare, logged_bare}
+use Rattle.body_digests.specs.declared.digests.Digests.{Digests}
+use Rattle.body_digests.specs.Digests.{AreDigestsIn}
+use Rattle.replica_records.proofs.BodyLaws.{PutsNone, digests_set, request_none}
+use Rattle.object_store.proofs.BareFolds.{fold_bare, fold_of_bare, logged_bare}
 use Rattle.object_store.proofs.Filled.{pair_of_none}
 use Rattle.store_compact.specs.Adding.{AreAdded, IsOf, all_copied_of, copied_of, plain}
 
@@ -82,36 +84,66 @@ module _ {D : Type 0} {g : Ghosts D} (store : Store D g) where
   plain_of [] none = tt
   plain_of (r ∷ rs) none = (record { pair = pair_of_none r (record { at = 0; len = 0 }) none.0 refl; place = inl refl }, plain_of rs none.1)
 
+  plain_added : (old new : List Copied) (records : List Record) → new ≡ old ++ map plain records → AllByRecursion PutsNone records → AreAdded store old new records
+  plain_added old new records is none =
+      added_all old new (map plain records) records is (plain_are records none) (All-from_recursion (IsOf store) (map plain records) (plain_of records none))
+
   logged_added : (old new : List Copied) (records : List Record) → new ≡ old ++ map plain (map widened (logged_of records)) → AreAdded store old new (map widened (logged_of records))
   logged_added old new records is =
-      let logged = map widened (logged_of records) in
-      let none = subst (AllByRecursion PutsNone) (logged_widened records) (requests_none (map widened records)) in
-      added_all old new (map plain logged) logged is (plain_are logged none) (All-from_recursion (IsOf store) (map plain logged) (plain_of logged none))
+      plain_added old new (map widened (logged_of records)) is (subst (AllByRecursion PutsNone) (logged_widened records) (requests_none (map widened records)))
 
   -- ---- bodies
 
-  pub stages_more : (stage : ObjectVersion → Record) (chosen : ObjectVersion → Bool) (made new : List Copied) (whole : List Record) (v : ObjectVersion)
-      (left rest : List ObjectVersion) (next : Copied) → left ≡ v ∷ rest → chosen v ≡ true → new ≡ made ++ next ∷ [] → copied_of store next ≡ stage v
-      → all_copied_of store made ++ map stage (filter chosen left) ≡ whole → all_copied_of store new ++ map stage (filter chosen rest) ≡ whole
-  stages_more stage chosen made new whole v left rest next is keeps more same before =
+  pub body_added : (old new : List Copied) (next : Copied) (rec : Record) → new ≡ old ++ next ∷ [] → copied_of store next ≡ rec → IsOf store next → AreAdded store old new (rec ∷ [])
+  body_added old new next rec is same of =
+      added_all old new (next ∷ []) (rec ∷ []) is (ap (λ (r : Record). r ∷ []) same) (All-push (IsOf store) [] next (All-nil (IsOf store)) of)
+
+  seals_none : (file : FileId) (v : ObjectVersion) (digests : List (List ℕ)) → AllByRecursion PutsNone (map (λ digest. kept.Seal file v.object v.version digest) digests)
+  seals_none file v [] = tt
+  seals_none file v (d ∷ ds) = (record { none = refl; stays = λ body. refl; key = refl }, seals_none file v ds)
+
+  pub seals_added : (old new : List Copied) (file : FileId) (v : ObjectVersion) (told digests : List (List ℕ))
+      → new ≡ old ++ map plain (map (λ digest. kept.Seal file v.object v.version digest) told) → told ≡ digests
+      → AreAdded store old new (map (λ digest. kept.Seal file v.object v.version digest) digests)
+  seals_added old new file v told digests is same =
+      plain_added old new (map (λ digest. kept.Seal file v.object v.version digest) digests)
+      (is ∙ ap (λ (ds : List (List ℕ)). old ++ map plain (map (λ digest. kept.Seal file v.object v.version digest) ds)) same) (seals_none file v digests)
+
+  -- what is put of a version, and then of those that are left
+  pub versions_more : (said : ObjectVersion → List Record) (chosen : ObjectVersion → Bool) (made new : List Copied) (whole : List Record) (v : ObjectVersion)
+      (left rest : List ObjectVersion) → left ≡ v ∷ rest → chosen v ≡ true → AreAdded store made new (said v)
+      → all_copied_of store made ++ flat_map said (filter chosen left) ≡ whole → all_copied_of store new ++ flat_map said (filter chosen rest) ≡ whole
+  versions_more said chosen made new whole v left rest is keeps added before =
       let later : filter chosen left ≡ v ∷ filter chosen rest =
       ap (filter chosen) is ∙ cond-true (chosen v) (v ∷ filter chosen rest) (filter chosen rest) keeps in
-      ap (λ (l : List Record). l ++ map stage (filter chosen rest))
-      (ap (all_copied_of store) more ∙ map-append (copied_of store) made (next ∷ []) ∙ ap (λ (r : Record). all_copied_of store made ++ r ∷ []) same)
-      ∙ append_assoc (all_copied_of store made) (stage v ∷ []) (map stage (filter chosen rest))
-      ∙ ap (λ (vs : List ObjectVersion). all_copied_of store made ++ map stage vs) (sym later)
+      ap (λ (l : List Record). l ++ flat_map said (filter chosen rest)) added.are
+      ∙ append_assoc (all_copied_of store made) (said v) (flat_map said (filter chosen rest))
+      ∙ ap (λ (vs : List ObjectVersion). all_copied_of store made ++ flat_map said vs) (sym later)
       ∙ before
 
-  pub of_more : (made new : List Copied) (next : Copied) → new ≡ made ++ next ∷ [] → IsOf store next → All (IsOf store) made → All (IsOf store) new
-  of_more made new next is of all = subst (All (IsOf store)) (sym is) (All-push (IsOf store) made next all of)
+-- ---- digests
+
+-- those of the records without their bodies are theirs
+digests_bare : (records : List Record) (file : FileId) (object : ℕ) (version : Stamp) → digests_kept (bare_of records) file object version ≡ digests_kept records file object version
+unfolding digests_kept
+digests_bare records file object version =
+    fold_of_bare (digests_after file object version) (λ digests rec. digests_set file object version digests [] rec) [] records
+
+pub digests_there : (digests : Digests) (slice records : List Record) → slice ≡ bare_of records → AreDigestsIn digests slice → AreDigestsIn digests records
+digests_there digests slice records is are = record {
+  each = λ file object version.
+      are.each file object version ∙ ap (λ (rs : List Record). digests_kept rs file object version) is ∙ digests_bare records file object version;
+}
 
 -- ---- what is said of files
 
-pub rows_more : (body : FileId → ℕ → Stamp → List ℕ) (keep : List KeepBody) (rows : List FileRow) (i : ℕ) (row : FileRow) → i < length rows → row ≡ get_or rows i row
-    → records_of_rows body (map (row_without keep) (take i rows)) ++ records_of_row body (row_without keep row) ≡ records_of_rows body (map (row_without keep) (take (i + 1) rows))
-rows_more body keep rows i row inside is =
-    flat_map_more (records_of_row body) [] (map (row_without keep) (take i rows)) (row_without keep row)
-    ∙ ap (records_of_rows body)
+pub rows_more : (body : FileId → ℕ → Stamp → List ℕ) (digests : FileId → ℕ → Stamp → List (List ℕ)) (keep : List KeepBody) (rows : List FileRow) (i : ℕ) (row : FileRow)
+    → i < length rows → row ≡ get_or rows i row
+    → records_of_rows body digests (map (row_without keep) (take i rows)) ++ records_of_row body digests (row_without keep row)
+    ≡ records_of_rows body digests (map (row_without keep) (take (i + 1) rows))
+rows_more body digests keep rows i row inside is =
+    flat_map_more (records_of_row body digests) [] (map (row_without keep) (take i rows)) (row_without keep row)
+    ∙ ap (records_of_rows body digests)
     (sym (map-append (row_without keep) (take i rows) (row ∷ []))
     ∙ ap (map (row_without keep)) (ap (λ (r : FileRow). take i rows ++ r ∷ []) is ∙ sym (take_more rows i row inside)))
 
@@ -125,7 +157,7 @@ module _ {D : Type 0} {g : Ghosts D} (store : Store D g) (keep : List KeepBody) 
   pub whole_added : (none one two made : List Copied) (slice : List Record) (folded : Folded) (files : List FileRow) (sought : List KeepBody) → none ≡ []
       → one ≡ none ++ plain (kept.Boot folded.boot) ∷ [] → two ≡ one ++ map plain (map widened (logged_of slice)) → slice ≡ bare_of (records_of store) → folded ≡ fold_of slice
       → files ≡ folded.files → sought ≡ keep
-      → AreAdded store two made (records_of_rows (body_by (records_of store)) (map (row_without sought) files)) → Whole made
+      → AreAdded store two made (records_of_rows (body_by (records_of store)) (digests_kept (records_of store)) (map (row_without sought) files)) → Whole made
   unfolding rewritten
   whole_added none one two made slice folded files sought nothing first second is_slice is_folded is_files is_sought third =
       let records = records_of store in
@@ -135,8 +167,8 @@ module _ {D : Type 0} {g : Ghosts D} (store : Store D g) (keep : List KeepBody) 
       one_added store [] one boot (first ∙ ap (λ (l : List Copied). l ++ plain (kept.Boot folded.boot) ∷ []) nothing ∙ ap (λ (f : Folded). plain (kept.Boot f.boot) ∷ []) fold) (record { none = refl; stays = λ body. refl; key = refl }) in
       let asked : AreAdded store one two (map widened (logged_of records)) =
       logged_added store one two records (second ∙ ap (λ (l : List Record). one ++ map plain (map widened l)) (ap logged_of is_slice ∙ logged_bare records)) in
-      let said : AreAdded store two made (records_of_rows (body_by records) (map (row_without keep) (fold_of records).files)) =
-      subst (λ (k : List KeepBody). AreAdded store two made (records_of_rows (body_by records) (map (row_without k) (fold_of records).files))) is_sought
-      (subst (λ (rows : List FileRow). AreAdded store two made (records_of_rows (body_by records) (map (row_without sought) rows))) (is_files ∙ ap (λ (f : Folded). f.files) fold) third) in
+      let said : AreAdded store two made (records_of_rows (body_by records) (digests_kept records) (map (row_without keep) (fold_of records).files)) =
+      subst (λ (k : List KeepBody). AreAdded store two made (records_of_rows (body_by records) (digests_kept records) (map (row_without k) (fold_of records).files))) is_sought
+      (subst (λ (rows : List FileRow). AreAdded store two made (records_of_rows (body_by records) (digests_kept records) (map (row_without sought) rows))) (is_files ∙ ap (λ (f : Folded). f.files) fold) third) in
       let all = added_then store [] two made _ _ (added_then store [] one two _ _ begun asked) said in
       record { are = all.are; of = all.of (All-nil (IsOf store)) }

@@ -2,7 +2,7 @@
 use Rattle.std.proofs.Common.{◌≡◌, ◌==◌, ◌&&◌, ◌<◌, ◌-◌, ◌^◌, ◌⊎◌, inl, inr, ℕ, Bool, true, false, cond, List, [], ◌∷◌, ◌++◌, map, refl, Option, Some, None, unwrap_or, arith}
 use Rattle.std.specs.Option.{IfSome}
 use Rattle.std.specs.List.{All, AllByRecursion, fold}
-use Rattle.std.specs.Prelude.{filter}
+use Rattle.std.specs.Prelude.{filter, flat_map}
 use Rattle.std.proofs.lemmas.Bool.Decides.{nat_tests}
 use Rattle.std.proofs.lemmas.List.Elements.{All-from_recursion, recursion_from_All, All-nil, All-cons, All-append, All-map, All-weaker, All-filter}
 use Rattle.xt_base.specs.FieldLimits.{FitsBytes}
@@ -21,15 +21,17 @@ use Rattle.xt_messages.specs.declared.record.Record.{Record}
 use Rattle.xt_messages.specs.declared.record.Record.TheVariants as kept
 use Rattle.xt_messages.specs.Limits.{FitsBoot, FitsEpoch, FitsFile, FitsHead, FitsLocation, FitsRecord, FitsStamp, FitsUpdate, FitsVersion, IsObject, IsVersion, is_at_most}
 use Rattle.xt_protocol.specs.FileIds.{is_file, is_before}
-use Rattle.xt_protocol.specs.Folds.{row_in, with_row, folded_after, nothing_kept, fold_of, is_logged, logged_of, widened, body_of, held_after, FollowsHead, body_put, newer, body_after, body_kept, makes_body, IsInPlace, AreInPlace}
-use Rattle.xt_protocol.specs.Forgetting.{is_kept, row_without, view_of, close_of, stage_of, records_of_row, records_of_rows, rewritten}
+use Rattle.xt_protocol.specs.Folds.{row_in, with_row, folded_after, nothing_kept, fold_of, is_logged, logged_of, widened, body_of, held_after, FollowsHead, body_put, newer, body_after, body_kept, digests_kept, makes_body, IsInPlace, AreInPlace}
+use Rattle.xt_protocol.specs.Forgetting.{is_kept, row_without, view_of, close_of, sealed_stage_of, records_of_row, records_of_rows, rewritten}
 use Rattle.xt_protocol.specs.Heads.{new_head, head_after, head_installed, later_epoch}
 use Rattle.xt_protocol.specs.SeenBodies.{body_by}
 use Rattle.xt_protocol.specs.Stamps.{is_stamp, is_version, comes_before, with_held}
 use Rattle.xt_protocol.proofs.FileRows.{each-without_row}
 use Rattle.object_versions.proofs.HeadLimits.{either, when}
 use Rattle.replica_records.proofs.OldLaws.{widened_fits}
+use Rattle.forgetting.proofs.Digests.{digests_fit, seals_fit}
 use Rattle.forgetting.proofs.Places as places
+use Rattle.forgetting.proofs.Rows.{each_sealed}
 use Rattle.store_compact.specs.Rewriting.{StayKept}
 
 -- ---- what records say is within the limits
@@ -233,25 +235,29 @@ close_limits file None which is = All-nil FitsRecord
 close_limits file (Some version) which is = All-cons FitsRecord (kept.Close file version) [] (which, is) (All-nil FitsRecord)
 
 module _ (keep : List KeepBody) (records : List Record) (all : AllByRecursion FitsRecord records) where
-  abbrev put_again : FileId → ObjectVersion → Record
-  put_again file v = stage_of (body_by records) file v
+  bodies_limits : (file : FileId) → FitsFile file → (held : List ObjectVersion) → AllByRecursion FitsVersion held
+      → AllByRecursion FitsRecord (flat_map (sealed_stage_of (body_by records) (digests_kept records) file) held)
+  bodies_limits file which held fits =
+      each_sealed (body_by records) (digests_kept records) FitsRecord FitsVersion file (λ v fits. (which, fits.which, fits.write, body_fits records file v all))
+      (λ v fits. seals_fit (digests_kept records) file v (λ digest tag. (which, fits.which, fits.write, tag)) (digests_fit records all file v.object v.version)) held fits
 
-  row_limits : (row : FileRow) → RowFits row → All FitsRecord (records_of_row (body_by records) (row_without keep row))
+  row_limits : (row : FileRow) → RowFits row → All FitsRecord (records_of_row (body_by records) (digests_kept records) (row_without keep row))
   row_limits row is =
       let held = filter (is_kept keep row.file) row.held in
-      All-append FitsRecord (view_of row.file row.location ++ close_of row.file row.closed ++ map (put_again row.file) held) (kept.Head row.file row.head ∷ [])
-      (All-append FitsRecord (view_of row.file row.location ++ close_of row.file row.closed) (map (put_again row.file) held)
+      let lists = view_of row.file row.location ++ close_of row.file row.closed in
+      let bodies = flat_map (sealed_stage_of (body_by records) (digests_kept records) row.file) held in
+      let held_fit = recursion_from_All FitsVersion held (All-filter (is_kept keep row.file) FitsVersion row.held (All-from_recursion FitsVersion row.held is.held)) in
+      All-append FitsRecord (lists ++ bodies) (kept.Head row.file row.head ∷ [])
+      (All-append FitsRecord lists bodies
       (All-append FitsRecord (view_of row.file row.location) (close_of row.file row.closed)
       (view_limits row.file row.location is.which is.place) (close_limits row.file row.closed is.which is.closes))
-      (All-map FitsRecord (put_again row.file) held
-      (All-weaker FitsVersion (λ (v : ObjectVersion). FitsRecord (put_again row.file v)) (λ v fits. (is.which, fits.which, fits.write, body_fits records row.file v all)) held
-      (All-filter (is_kept keep row.file) FitsVersion row.held (All-from_recursion FitsVersion row.held is.held)))))
+      (All-from_recursion FitsRecord bodies (bodies_limits row.file is.which held held_fit)))
       (All-cons FitsRecord (kept.Head row.file row.head) [] (is.which, is.stands) (All-nil FitsRecord))
 
-  rows_limits : (rows : List FileRow) → AllByRecursion RowFits rows → All FitsRecord (records_of_rows (body_by records) (map (row_without keep) rows))
+  rows_limits : (rows : List FileRow) → AllByRecursion RowFits rows → All FitsRecord (records_of_rows (body_by records) (digests_kept records) (map (row_without keep) rows))
   rows_limits [] are = All-nil FitsRecord
   rows_limits (r ∷ rs) are =
-      All-append FitsRecord (records_of_row (body_by records) (row_without keep r)) (records_of_rows (body_by records) (map (row_without keep) rs)) (row_limits r are.0)
+      All-append FitsRecord (records_of_row (body_by records) (digests_kept records) (row_without keep r)) (records_of_rows (body_by records) (digests_kept records) (map (row_without keep) rs)) (row_limits r are.0)
       (rows_limits rs are.1)
 
   logged_limits : All FitsRecord (map widened (logged_of records))
@@ -264,7 +270,7 @@ module _ (keep : List KeepBody) (records : List Record) (all : AllByRecursion Fi
   limits_then : FoldFits (fold_of records) → All FitsRecord (rewritten keep records)
   unfolding rewritten
   limits_then is =
-      let rest = records_of_rows (body_by records) (map (row_without keep) (fold_of records).files) in
+      let rest = records_of_rows (body_by records) (digests_kept records) (map (row_without keep) (fold_of records).files) in
       All-cons FitsRecord (kept.Boot (fold_of records).boot) (map widened (logged_of records) ++ rest) is.start
       (All-append FitsRecord (map widened (logged_of records)) rest logged_limits (rows_limits (fold_of records).files is.rows))
 

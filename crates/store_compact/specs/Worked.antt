@@ -46,6 +46,10 @@ head_of count versions =
       sessions = [];
     }
 
+-- 32 times the same byte for a digest of object 0 of the first file in its version of this many writes
+abbrev pub seal : ℕ → ℕ → Record
+seal count byte = kept.Seal (file 1) 0 (stamp count) (replicate 32 byte)
+
 -- the head of the first file names the second version of object 0, and that of the second file none
 abbrev pub first_head : FileHead
 first_head = head_of 2 (record { object = 0; version = stamp 2 } ∷ [])
@@ -57,19 +61,25 @@ second_head = head_of 1 []
 abbrev pub location : Location
 location = record { version = 1; kind = kind.Replicated; stripe = 1024; members = record { 0 = 1 } ∷ [] }
 
--- Two versions of an object of the first file, the second of them put twice; one of the second file, by a record of an old kind; a request
+-- The first file is removed, and begins anew. Then two versions of an object of it, the second of them put twice, with a digest of the
+-- first, and one before it was removed and two later ones of the second; one of the second file, by a record of an old kind; a request
 -- among them, a list that is closed, and a second start.
 abbrev pub old : List Record
 old =
     boot 1
+    ∷ seal 2 3
+    ∷ kept.Forget (file 1)
     ∷ kept.View (file 1) location
     ∷ kept.OldStage (file 2) 0 (stamp 1) (7 ∷ [])
     ∷ stage 1 1 (97 ∷ [])
     ∷ kept.Close (file 1) 1
     ∷ request
     ∷ stage 1 2 (98 ∷ [])
+    ∷ seal 1 4
+    ∷ seal 2 5
     ∷ kept.Head (file 2) second_head
     ∷ stage 1 2 (98 ∷ 99 ∷ [])
+    ∷ seal 2 6
     ∷ kept.Head (file 1) first_head
     ∷ boot 2
     ∷ []
@@ -79,7 +89,7 @@ abbrev pub keep : List KeepBody
 keep = record { file = file 1; object = 0; version = stamp 2 } ∷ []
 
 -- The last start, the request, then each file: of the first its list, which one is closed, the one body with the bytes that were put
--- last, and its head; of the second its head alone.
+-- last, the two digests of it since the file was removed, and its head; of the second its head alone.
 abbrev pub made : List Record
 made =
     boot 2
@@ -87,6 +97,8 @@ made =
     ∷ kept.View (file 1) location
     ∷ kept.Close (file 1) 1
     ∷ stage 1 2 (98 ∷ 99 ∷ [])
+    ∷ seal 2 5
+    ∷ seal 2 6
     ∷ kept.Head (file 1) first_head
     ∷ kept.Head (file 2) second_head
     ∷ []

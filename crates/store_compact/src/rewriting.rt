@@ -1,8 +1,10 @@
-ghost use Rattle.std.specs.Prelude.{◌≡◌, ◌++◌, ◌∷◌, ◌⊎◌, [], IfOk, OnOk, Contains, filter, map};
+ghost use Rattle.std.specs.Prelude.{◌≡◌, ◌++◌, ◌∷◌, ◌⊎◌, [], IfOk, OnOk, Contains, filter, flat_map, map};
 ghost use Rattle.std.specs.List.{All};
-ghost use Rattle.xt_protocol.specs.Folds.{is_logged, logged_of, widened};
-ghost use Rattle.xt_protocol.specs.Forgetting.{close_of, is_kept, records_of_row, records_of_rows, rewritten, row_without, stage_of, view_of};
+ghost use Rattle.xt_messages.specs.declared.record.Record.TheVariants as kept;
+ghost use Rattle.xt_protocol.specs.Folds.{digests_kept, is_logged, logged_of, widened};
+ghost use Rattle.xt_protocol.specs.Forgetting.{close_of, is_kept, records_of_row, records_of_rows, rewritten, row_without, sealed_stage_of, stage_of, view_of};
 ghost use Rattle.xt_protocol.specs.SeenBodies.{body_by};
+ghost use Rattle.body_digests.specs.Digests.{AreDigestsIn};
 ghost use Rattle.object_store.specs.Access.{disk_of, log_of, records_of};
 ghost use Rattle.object_store.specs.Logs.{places_in};
 ghost use Rattle.object_store.specs.Places.{bytes_at};
@@ -11,6 +13,7 @@ ghost use Rattle.store_compact.specs.Adding.{AreAdded, IsOf, all_copied_of, copi
 use disk_model::Disk;
 use object_store::{BodyPlace, Copied, Store};
 use object_versions::SoughtBodies;
+use body_digests::{BodyDigest, Digests};
 use replica_records::fold;
 use std::alloc::Global;
 use xt_base::{Copies, FileId, Octets, OutOfMemory};
@@ -176,40 +179,88 @@ fn put_close(made: &mut Vec<Copied>, file: &FileId, closed: &Option<u32>) -> Res
     Ok(())
 }
 
-/// Puts the held bodies of a file that are kept after the others, in their order.
+/// Puts a record for each digest of this version of the file's object after the others, in their order.
+fn put_seals(
+    made: &mut Vec<Copied>,
+    file: &FileId,
+    version: ObjectVersion,
+    digests: &[BodyDigest],
+) -> Result<(), OutOfMemory>
+    ensures { OnOk result (made.new.items ≡ made.old.items ++ map plain
+        (map (λ digest. kept.Seal file.now version.object version.version digest) digests.now)) }
+{
+    for digest in digests {
+        let rec = Record::Seal {
+            file: *file,
+            object: version.object,
+            version: version.version,
+            digest: *digest,
+        };
+        put_plain(made, rec)?;
+    }
+    Ok(())
+}
+
+/// Puts a held body of a file after the others, and then its digests.
+fn put_body<D: Disk>(
+    alloc: Global,
+    made: &mut Vec<Copied>,
+    store: &Store<D>,
+    digests: &Digests,
+    file: &FileId,
+    version: ObjectVersion,
+) -> Result<(), OutOfMemory>
+    requires { AreDigestsIn digests.now (records_of store.now) }
+    ensures { OnOk result (AreAdded store.now made.old.items made.new.items
+        (sealed_stage_of (body_by (records_of store.now)) (digests_kept (records_of store.now))
+        file.now version)) }
+{
+    put(made, stage(alloc, store, file, version))?;
+    put_seals(made, file, version, digests.of_version(file, &version))?;
+    Ok(())
+}
+
+/// Puts the held bodies of a file that are kept after the others, in their order, each with its digests after it.
 fn put_bodies<D: Disk>(
     alloc: Global,
     made: &mut Vec<Copied>,
     store: &Store<D>,
+    digests: &Digests,
     row: &FileRow,
     keep: &SoughtBodies<'_>,
 ) -> Result<(), OutOfMemory>
+    requires { AreDigestsIn digests.now (records_of store.now) }
     ensures { OnOk result (AreAdded store.now made.old.items made.new.items
-        (map (stage_of (body_by (records_of store.now)) row.now.file)
+        (flat_map (sealed_stage_of (body_by (records_of store.now))
+        (digests_kept (records_of store.now)) row.now.file)
         (filter (is_kept keep.now row.now.file) row.now.held))) }
 {
     for version in &row.held.versions {
         if keep.has(&row.file, *version) {
-            put(made, stage(alloc, store, &row.file, *version))?;
+            put_body(alloc, made, store, digests, &row.file, *version)?;
         }
     }
     Ok(())
 }
 
-/// Puts what says of a file what its row says after the others: its list, which list is closed, its bodies that are kept, and its head.
+/// Puts what says of a file what its row says after the others: its list, which list is closed, its bodies that are kept, each with its
+/// digests, and its head.
 fn put_row<D: Disk>(
     alloc: Global,
     made: &mut Vec<Copied>,
     store: &Store<D>,
+    digests: &Digests,
     row: &FileRow,
     keep: &SoughtBodies<'_>,
 ) -> Result<(), OutOfMemory>
+    requires { AreDigestsIn digests.now (records_of store.now) }
     ensures { OnOk result (AreAdded store.now made.old.items made.new.items
-        (records_of_row (body_by (records_of store.now)) (row_without keep.now row.now))) }
+        (records_of_row (body_by (records_of store.now)) (digests_kept (records_of store.now))
+        (row_without keep.now row.now))) }
 {
     put_view(made, &row.file, &row.location)?;
     put_close(made, &row.file, &row.closed)?;
-    put_bodies(alloc, made, store, row, keep)?;
+    put_bodies(alloc, made, store, digests, row, keep)?;
     let rec = Record::Head {
         file: row.file,
         head: row.head.copy(alloc)?,
@@ -223,22 +274,27 @@ fn put_rows<D: Disk>(
     alloc: Global,
     made: &mut Vec<Copied>,
     store: &Store<D>,
+    digests: &Digests,
     rows: &[FileRow],
     keep: &SoughtBodies<'_>,
 ) -> Result<(), OutOfMemory>
+    requires { AreDigestsIn digests.now (records_of store.now) }
     ensures { OnOk result (AreAdded store.now made.old.items made.new.items
-        (records_of_rows (body_by (records_of store.now)) (map (row_without keep.now) rows.now))) }
+        (records_of_rows (body_by (records_of store.now)) (digests_kept (records_of store.now))
+        (map (row_without keep.now) rows.now))) }
 {
     for row in rows {
-        put_row(alloc, made, store, row, keep)?;
+        put_row(alloc, made, store, digests, row, keep)?;
     }
     Ok(())
 }
 
 /// The records that say what the store's say, but for the held bodies that aren't to be kept: the last start, the requests in their order,
-/// and then file by file its list, which list is closed, its kept bodies and its head. None of them is of an old kind.
+/// and then file by file its list, which list is closed, its kept bodies, each with its digests after it, and its head. None of them is of
+/// an old kind.
 ///
-/// It goes through the records once, and finds each body by its place. No body is read: each is to be copied from there.
+/// It goes through the records a few times, and finds each body by its place and its digests by its version. No body is read: each is to
+/// be copied from there.
 #[tactic(auto, unfolding(xt_protocol::specs::Forgetting::rewritten))]
 pub fn rewritten<D: Disk>(
     alloc: Global,
@@ -252,9 +308,17 @@ pub fn rewritten<D: Disk>(
     let keep = SoughtBodies::of(keep);
     let records = store.records();
     let folded = fold(alloc, records)?;
+    let digests = Digests::of(alloc, records)?;
     let mut made = Vec::new(alloc);
     put_plain(&mut made, Record::Boot { boot: folded.boot })?;
     put_logged(alloc, &mut made, records)?;
-    put_rows(alloc, &mut made, store, folded.files.as_slice(), &keep)?;
+    put_rows(
+        alloc,
+        &mut made,
+        store,
+        &digests,
+        folded.files.as_slice(),
+        &keep,
+    )?;
     Ok(made)
 }

@@ -3,9 +3,10 @@ use Rattle.std.proofs.Common.{◌≡◌, ◌==◌, ◌⊎◌, inl, inr, ℕ, zer
 use Rattle.std.specs.Option.{IfSome}
 use Rattle.std.specs.List.{AllByRecursion, fold}
 use Rattle.std.specs.Ordering.{is_eq}
-use Rattle.std.specs.Prelude.{Contains, filter}
+use Rattle.std.specs.Prelude.{Contains, filter, flat_map}
 use Rattle.std.proofs.lemmas.Bool.Decides.{nat_tests}
 use Rattle.std.proofs.lemmas.List.Elements.{All-from_recursion}
+use Rattle.xt_base.specs.FieldLimits.{FitsTag}
 use Rattle.xt_base.specs.declared.TheConstants.{NO_OBJECT}
 use Rattle.xt_base.specs.declared.ids.FileId.{FileId}
 use Rattle.xt_base.specs.declared.ids.Stamp.{Stamp}
@@ -20,8 +21,8 @@ use Rattle.xt_messages.specs.declared.record.Record.TheVariants as kept
 use Rattle.xt_messages.specs.Limits.{FitsBoot, FitsFile, FitsLocation, FitsUpdate, FitsVersion, FitsRecord, IsObject, IsObjectOrNone, IsVersion}
 use Rattle.xt_protocol.specs.FileIds.{is_file, is_before, file_cmp}
 use Rattle.xt_protocol.specs.FileStates.{FileState}
-use Rattle.xt_protocol.specs.Folds.{row_in, row_after, with_row, rows_after, file_of, forgets, folded_after, nothing_kept, fold_of, is_logged, logged_of, widened, body_of, held_after}
-use Rattle.xt_protocol.specs.Forgetting.{keep_of, is_needed, is_kept, row_without, file_without, osd_without, view_of, close_of, stage_of, records_of_row, records_of_rows, rewritten}
+use Rattle.xt_protocol.specs.Folds.{row_in, row_after, with_row, rows_after, file_of, forgets, folded_after, nothing_kept, fold_of, digests_kept, is_logged, logged_of, widened, body_of, held_after}
+use Rattle.xt_protocol.specs.Forgetting.{keep_of, is_needed, is_kept, row_without, file_without, osd_without, view_of, close_of, sealed_stage_of, records_of_row, records_of_rows, rewritten}
 use Rattle.xt_protocol.specs.OsdSteps.{OsdState, file_at}
 use Rattle.xt_protocol.specs.SeenBodies.{body_by}
 use Rattle.xt_protocol.specs.Stamps.{is_version, comes_before, has_version, with_held}
@@ -32,9 +33,11 @@ use Rattle.world_runs.proofs.Forgotten.{rows_then}
 use Rattle.object_versions.proofs.HeadLimits.{either}
 use Rattle.replica_records.proofs.Held.{is_among}
 use Rattle.replica_records.proofs.OldLaws.{widened_fits}
+use Rattle.forgetting.proofs.Digests.{digests_fit, seals_fit}
 use Rattle.forgetting.proofs.Folded.{folds_rise}
 use Rattle.forgetting.proofs.Held.{met}
 use Rattle.forgetting.proofs.Named as named
+use Rattle.forgetting.proofs.Rows.{each_sealed}
 use Rattle.xt_protocol.proofs.FileRows.{FilesRise, less, each-without_row}
 use Rattle.forgetting.proofs.Places as places
 use Rattle.world_limits.specs.States.{AreBodies, FileIs, KeptIs, OsdIs, RowIs}
@@ -122,33 +125,36 @@ close_limits : (file : FileId) (o : Option ℕ) → FitsFile file → IfSome o I
 close_limits file None which is = tt
 close_limits file (Some version) which is = ((which, is), tt)
 
-row_limits : (body : FileId → ℕ → Stamp → List ℕ) → ((file : FileId) → AreBodies (body file)) → (row : FileRow) → RowIs row → HeldFits row → AllByRecursion FitsRecord (records_of_row body row)
-row_limits body bodies row is fits =
-    let lists = view_of row.file row.location ++ close_of row.file row.closed in
-    all_append FitsRecord (lists ++ map (stage_of body row.file) row.held) (kept.Head row.file row.head ∷ [])
-    (all_append FitsRecord lists (map (stage_of body row.file) row.held)
-    (all_append FitsRecord (view_of row.file row.location) (close_of row.file row.closed) (view_limits row.file row.location is.which is.place) (close_limits row.file row.closed is.which fits.closed))
-    (all_map FitsRecord (stage_of body row.file) row.held
-    (all_weaker FitsVersion (λ (v : ObjectVersion). FitsRecord (stage_of body row.file v)) row.held (λ v fits. (is.which, fits.which, fits.write, bodies row.file v.object v.version)) fits.held)))
-    ((is.which, is.stands), tt)
+module _ (body : FileId → ℕ → Stamp → List ℕ) (digests : FileId → ℕ → Stamp → List (List ℕ)) (bodies : (file : FileId) → AreBodies (body file))
+    (sealed : (file : FileId) (object : ℕ) (version : Stamp) → AllByRecursion FitsTag (digests file object version)) where
+  row_limits : (row : FileRow) → RowIs row → HeldFits row → AllByRecursion FitsRecord (records_of_row body digests row)
+  row_limits row is fits =
+      let lists = view_of row.file row.location ++ close_of row.file row.closed in
+      let staged = flat_map (sealed_stage_of body digests row.file) row.held in
+      all_append FitsRecord (lists ++ staged) (kept.Head row.file row.head ∷ [])
+      (all_append FitsRecord lists staged
+      (all_append FitsRecord (view_of row.file row.location) (close_of row.file row.closed) (view_limits row.file row.location is.which is.place) (close_limits row.file row.closed is.which fits.closed))
+      (each_sealed body digests FitsRecord FitsVersion row.file (λ v fits. (is.which, fits.which, fits.write, bodies row.file v.object v.version))
+      (λ v fits. seals_fit digests row.file v (λ digest tag. (is.which, fits.which, fits.write, tag)) (sealed row.file v.object v.version)) row.held fits.held))
+      ((is.which, is.stands), tt)
 
-rows_limits : (body : FileId → ℕ → Stamp → List ℕ) → ((file : FileId) → AreBodies (body file)) → (keep : List KeepBody) (rows : List FileRow) → AllByRecursion RowIs rows → AllByRecursion HeldFits rows
-    → AllByRecursion FitsRecord (records_of_rows body (map (row_without keep) rows))
-rows_limits body bodies keep [] are held = tt
-rows_limits body bodies keep (r ∷ rs) are held =
-    all_append FitsRecord (records_of_row body (row_without keep r)) (records_of_rows body (map (row_without keep) rs))
-    (row_limits body bodies (row_without keep r) (record { which = are.0.which; stands = are.0.stands; place = are.0.place }) (record { held = all_filter FitsVersion (is_kept keep r.file) r.held held.0.held; closed = held.0.closed }))
-    (rows_limits body bodies keep rs are.1 held.1)
+  rows_limits : (keep : List KeepBody) (rows : List FileRow) → AllByRecursion RowIs rows → AllByRecursion HeldFits rows
+      → AllByRecursion FitsRecord (records_of_rows body digests (map (row_without keep) rows))
+  rows_limits keep [] are held = tt
+  rows_limits keep (r ∷ rs) are held =
+      all_append FitsRecord (records_of_row body digests (row_without keep r)) (records_of_rows body digests (map (row_without keep) rs))
+      (row_limits (row_without keep r) (record { which = are.0.which; stands = are.0.stands; place = are.0.place }) (record { held = all_filter FitsVersion (is_kept keep r.file) r.held held.0.held; closed = held.0.closed }))
+      (rows_limits keep rs are.1 held.1)
 
 limits_then : (keep : List KeepBody) (records : List Record) → KeptIs records → AllByRecursion FitsRecord (rewritten keep records)
 unfolding rewritten logged_of
 limits_then keep records is =
     let fits = folds_fit records is.limits in (
       fits.0,
-      all_append FitsRecord (map widened (filter is_logged records)) (records_of_rows (body_by records) (map (row_without keep) (fold_of records).files))
+      all_append FitsRecord (map widened (filter is_logged records)) (records_of_rows (body_by records) (digests_kept records) (map (row_without keep) (fold_of records).files))
           (all_map FitsRecord widened (filter is_logged records)
           (all_weaker FitsRecord (λ (rec : Record). FitsRecord (widened rec)) (filter is_logged records) widened_fits (all_filter FitsRecord is_logged records is.limits)))
-          (rows_limits (body_by records) (λ file. bodies_are records file is.limits) keep (fold_of records).files is.rows fits.1),
+          (rows_limits (body_by records) (digests_kept records) (λ file. bodies_are records file is.limits) (digests_fit records is.limits) keep (fold_of records).files is.rows fits.1),
     )
 
 -- ---- the places

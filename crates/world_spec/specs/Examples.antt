@@ -15,7 +15,7 @@ use Rattle.xt_messages.specs.declared.status.Rule.{Rule}
 use Rattle.time_line.specs.declared.entry.Halt.TheVariants as halt
 use Rattle.xt_protocol.specs.Stamps.{with_held}
 use Rattle.xt_protocol.specs.Forgetting.{keep_of, osd_without, rewritten}
-use Rattle.xt_protocol.specs.Folds.{logged_of, body_kept, fold_of, row_in, with_row}
+use Rattle.xt_protocol.specs.Folds.{logged_of, body_kept, digests_kept, fold_of, row_in, with_row}
 use Rattle.xt_protocol.specs.Choice.{chosen_of, difference}
 use Rattle.xt_protocol.specs.Writes.{standing}
 use Rattle.xt_protocol.specs.ReplicaRows.{gathered, fetched_from, staged, headed, updated}
@@ -74,7 +74,7 @@ room_for count = record {
 
 -- the world after these lines
 unfoldable pub world_in : Room → List Line → World
-unfolding tags digests run_of after refusal first_stranger least_where done steps next_step first_step least_pending event_comes node_in with_node file_in outcome_in called called_again stepped again_of_client call_of_client step_of_client step_of_mrc step_of_dir plain_step striped_refusal handle_striped step_of_osd step_of_file wake_of_file expired handle_ask refusal_of read_comes write_comes answer_comes serves_all draw_epoch hears reads writes wakes peer_in with_peer fed chosen_of difference gathered fetched_from staged headed updated standing file_at with_file each_file body_kept fold_of logged_of row_in with_row with_held keep_of osd_without rewritten
+unfolding tags digests run_of after refusal first_stranger least_where done steps next_step first_step least_pending event_comes node_in with_node file_in outcome_in called called_again stepped again_of_client call_of_client step_of_client step_of_mrc step_of_dir plain_step striped_refusal handle_striped step_of_osd step_of_file wake_of_file expired handle_ask refusal_of read_comes write_comes answer_comes serves_all draw_epoch hears reads writes wakes peer_in with_peer fed chosen_of difference gathered fetched_from staged headed updated standing file_at with_file each_file body_kept digests_kept fold_of logged_of row_in with_row with_held keep_of osd_without rewritten
 world_in room lines = run_of room lines
 
 -- the trace of these lines

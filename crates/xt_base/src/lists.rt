@@ -72,8 +72,8 @@ impl<T: Copies> Copies for Seq<T> {
     }
 }
 
-/// Bytes that may have several holders, which contracts see as a list. A copy, or a part, is a holder more of the same bytes, and
-/// takes no memory.
+/// Bytes that may have several holders, which contracts see as a list. A copy is one more holder of the same bytes, and takes no
+/// memory.
 #[derive(Drop)]
 pub struct Octets {
     bytes: Bytes,

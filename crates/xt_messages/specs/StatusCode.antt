@@ -24,3 +24,7 @@ code_of (status.Broken clause entry) = 17
 code_of (status.Damaged place) = 18
 code_of (status.Retry answers) = 20
 code_of (status.Refused rule) = 21
+code_of (status.Unmended count) = 22
+code_of (status.Moved count) = 23
+code_of status.NotReplicated = 24
+code_of (status.PinStore pins) = 25

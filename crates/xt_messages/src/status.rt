@@ -87,6 +87,14 @@ pub enum Status {
     Damaged { place: u64 },
     Retry { answers: Answers },
     Refused { rule: Refusal },
+    /// This many damaged bodies were not mended.
+    Unmended { count: u64 },
+    /// The file is not as it was pinned: what was fetched is of this count, or the path names another file (0).
+    Moved { count: u64 },
+    /// The file is striped; only a replicated one can be pinned.
+    NotReplicated,
+    /// The store holds this many pins, not the number that the command needs.
+    PinStore { pins: u64 },
 }
 
 impl Status {
@@ -115,6 +123,10 @@ impl Status {
             Status::Damaged { .. } => 18,
             Status::Retry { .. } => 20,
             Status::Refused { .. } => 21,
+            Status::Unmended { .. } => 22,
+            Status::Moved { .. } => 23,
+            Status::NotReplicated => 24,
+            Status::PinStore { .. } => 25,
         }
     }
 }
@@ -146,6 +158,10 @@ impl Drop for Status {
             Status::Damaged { place: _ } => {}
             Status::Retry { answers: _ } => {}
             Status::Refused { rule: _ } => {}
+            Status::Unmended { count: _ } => {}
+            Status::Moved { count: _ } => {}
+            Status::NotReplicated => {}
+            Status::PinStore { pins: _ } => {}
         }
     }
 }

@@ -22,7 +22,7 @@ use Rattle.xt_messages.specs.declared.record.Record.TheVariants as kept
 use Rattle.xt_messages.specs.declared.record.FileRow.{FileRow}
 use Rattle.xt_messages.specs.declared.record.Folded.{Folded}
 use Rattle.xt_protocol.specs.FileIds.{is_file, is_before, file_cmp}
-use Rattle.xt_protocol.specs.Folds.{new_row, row_in, with_row, without_row, row_after, rows_after, folded_after, nothing_kept, fold_of, is_logged, logged_of, widened, body_after, body_kept}
+use Rattle.xt_protocol.specs.Folds.{new_row, row_in, with_row, without_row, row_after, rows_after, folded_after, nothing_kept, fold_of, is_logged, logged_of, widened, body_after, body_kept, digests_after, digests_kept}
 
 -- ---- which files are one
 
@@ -243,6 +243,11 @@ pub body_kept-append : (records later : List Record) (file : FileId) (object : �
     → body_kept (records ++ later) file object version ≡ fold (body_after file object version) (body_kept records file object version) later
 unfolding body_kept
 body_kept-append records later file object version = fold-append (body_after file object version) None records later
+
+pub digests_kept-push : (records : List Record) (rec : Record) (file : FileId) (object : ℕ) (version : Stamp)
+    → digests_kept (records ++ rec ∷ []) file object version ≡ digests_after file object version (digests_kept records file object version) rec
+unfolding digests_kept
+digests_kept-push records rec file object version = fold-append (digests_after file object version) [] records (rec ∷ [])
 
 -- ---- old kinds say what the present ones say
 

@@ -1,5 +1,5 @@
 -- What the records of a node say: its last start, and the row of each file; and which of them are of requests.
-use Rattle.std.specs.Prelude.{ℕ, Bool, not, ◌&&◌, ◌==◌, ◌≡◌, ◌⊎◌, ◌+◌, true, false, if◌then◌else◌, Option, Some, None, List, [], ◌∷◌, filter, Contains}
+use Rattle.std.specs.Prelude.{ℕ, Bool, not, ◌&&◌, ◌==◌, ◌≡◌, ◌⊎◌, ◌+◌, true, false, if◌then◌else◌, Option, Some, None, List, [], ◌∷◌, ◌++◌, filter, Contains}
 use Rattle.std.specs.List.{fold, All}
 use Rattle.xt_messages.specs.Limits.{FitsHead, is_at_most}
 use Rattle.xt_base.specs.declared.ids.FileId.{FileId}
@@ -210,3 +210,17 @@ body_after file object version before rec = newer before (body_put file object v
 -- What these records keep as this version of this object of the file: what the last of them put, none where none did.
 unfoldable pub body_kept : List Record → FileId → ℕ → Stamp → Option (List ℕ)
 body_kept records file object version = fold (body_after file object version) None records
+
+-- ---- digests
+
+-- the digests of this version of this object of the file after a record: one more after its Seal, and none once its file is removed
+abbrev pub digests_after : FileId → ℕ → Stamp → List (List ℕ) → Record → List (List ℕ)
+digests_after file object version digests (kept.Seal f o v digest) =
+    if is_file f file && (o == object) && is_stamp v version then digests ++ digest ∷ [] else digests
+digests_after file object version digests (kept.Forget f) = if is_file f file then [] else digests
+digests_after file object version digests _ = digests
+
+-- The digests that these records keep of this version of this object of the file, in their order: those since its file was
+-- removed last. The last one counts.
+unfoldable pub digests_kept : List Record → FileId → ℕ → Stamp → List (List ℕ)
+digests_kept records file object version = fold (digests_after file object version) [] records

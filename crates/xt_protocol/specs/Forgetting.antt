@@ -13,7 +13,7 @@ use Rattle.xt_messages.specs.declared.record.KeepBody.{KeepBody}
 use Rattle.xt_messages.specs.declared.record.Record.{Record}
 use Rattle.xt_messages.specs.declared.record.Record.TheVariants as kept
 use Rattle.xt_protocol.specs.FileIds.{is_file}
-use Rattle.xt_protocol.specs.Folds.{body_of, fold_of, logged_of, widened}
+use Rattle.xt_protocol.specs.Folds.{body_of, digests_kept, fold_of, logged_of, widened}
 use Rattle.xt_protocol.specs.Stamps.{is_version, has_version}
 use Rattle.xt_protocol.specs.SeenBodies.{body_by}
 use Rattle.xt_protocol.specs.declared.states.Peer.{Peer}
@@ -87,17 +87,27 @@ close_of file (Some version) = kept.Close file version ∷ []
 abbrev pub stage_of : (FileId → ℕ → Stamp → List ℕ) → FileId → ObjectVersion → Record
 stage_of body file v = kept.Stage file v.object v.version (body file v.object v.version)
 
--- what says of a file what this row says: its list, which list is closed, its bodies, and its head
-abbrev pub records_of_row : (FileId → ℕ → Stamp → List ℕ) → FileRow → List Record
-records_of_row body row =
-    view_of row.file row.location ++ close_of row.file row.closed ++ map (stage_of body row.file) row.held ++ kept.Head row.file row.head ∷ []
+-- for each digest of a body the record that keeps it
+abbrev pub seals_of : (FileId → ℕ → Stamp → List (List ℕ)) → FileId → ObjectVersion → List Record
+seals_of digests file v = map (λ digest. kept.Seal file v.object v.version digest) (digests file v.object v.version)
+
+-- the body, and then its digests
+abbrev pub sealed_stage_of : (FileId → ℕ → Stamp → List ℕ) → (FileId → ℕ → Stamp → List (List ℕ)) → FileId → ObjectVersion → List Record
+sealed_stage_of body digests file v = stage_of body file v ∷ seals_of digests file v
+
+-- what says of a file what this row says: its list, which list is closed, its bodies, each with its digests after it, and its head
+abbrev pub records_of_row : (FileId → ℕ → Stamp → List ℕ) → (FileId → ℕ → Stamp → List (List ℕ)) → FileRow → List Record
+records_of_row body digests row =
+    view_of row.file row.location ++ close_of row.file row.closed ++ flat_map (sealed_stage_of body digests row.file) row.held
+    ++ kept.Head row.file row.head ∷ []
 
 -- these of all files
-abbrev pub records_of_rows : (FileId → ℕ → Stamp → List ℕ) → List FileRow → List Record
-records_of_rows body rows = flat_map (records_of_row body) rows
+abbrev pub records_of_rows : (FileId → ℕ → Stamp → List ℕ) → (FileId → ℕ → Stamp → List (List ℕ)) → List FileRow → List Record
+records_of_rows body digests rows = flat_map (records_of_row body digests) rows
 
 -- The records that say what these say, none of them of an old kind, but for the bodies that aren't among those: the last start, the requests in their order,
--- and then file by file its list, its kept bodies and its head.
+-- and then file by file its list, its kept bodies, each with its digests after it, and its head.
 unfoldable pub rewritten : List KeepBody → List Record → List Record
 rewritten keep records =
-    kept.Boot (fold_of records).boot ∷ map widened (logged_of records) ++ records_of_rows (body_by records) (map (row_without keep) (fold_of records).files)
+    kept.Boot (fold_of records).boot ∷ map widened (logged_of records)
+    ++ records_of_rows (body_by records) (digests_kept records) (map (row_without keep) (fold_of records).files)

@@ -1,4 +1,5 @@
 use Rattle.std.proofs.Common.{map, take}
+use Rattle.xt_protocol.specs.Folds.{digests_kept}
 use Rattle.xt_protocol.specs.Forgetting.{records_of_rows, row_without}
 use Rattle.xt_protocol.specs.SeenBodies.{body_by}
 use Rattle.object_store.specs.Access.{records_of}
@@ -8,5 +9,6 @@ use Rattle.store_compact.proofs.rewriting.put_rows.Given as goal
 -- the rows so far have put theirs
 abbrev pub invariant-loop-row : goal.invariant-loop-row
 invariant-loop-row g l =
+    let records = records_of {g = g.D.Disk} l.store in
     AreAdded {g = g.D.Disk} l.store l.initial.made.items l.made.items
-    (records_of_rows (body_by (records_of {g = g.D.Disk} l.store)) (map (row_without l.keep) (take l.row-index l.rows)))
+    (records_of_rows (body_by records) (digests_kept records) (map (row_without l.keep) (take l.row-index l.rows)))

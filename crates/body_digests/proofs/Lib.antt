@@ -1,0 +1,2 @@
+pub mod Sealing
+mod Noting
