@@ -8,7 +8,7 @@ use Rattle.hex.specs.declared.error.FromHexError.{FromHexError}
 use Rattle.hex.proofs.HexLemmas.{decode_of-ok}
 use Rattle.command_words.specs.Commands.{program_app}
 use Rattle.command_words.specs.Ranges.{is_decimal, is_lower_hex, number_of, number_in, number_or, key_of, some_bytes, times_of}
-use Rattle.command_words.specs.Jobs.{Rows, named, node_at, path_at, address_at, mode_at, number_at, number_or_at, number_if_at, key_at, key_if_at, range_of, range_at, layout_at, stripe_at, pattern_at, registered_at, register_of, unregister_of, mkdir_of, rmdir_of, rm_of, mv_of, chmod_of, ls_of, stat_of, put_of, get_of, truncate_of, file_order, tree_order, order_of, directory_at, client_of, settings_of, who_of, serving_of, make_of, osd_of, mrc_of, dir_of, check_of, cluster_of, node_job, job_in, chosen_in, unless_fault, job_of}
+use Rattle.command_words.specs.Jobs.{Rows, named, node_at, path_at, address_at, mode_at, number_at, number_or_at, number_if_at, key_at, key_if_at, range_of, range_at, layout_at, stripe_at, pattern_at, registered_at, register_of, unregister_of, mkdir_of, rmdir_of, rm_of, mv_of, chmod_of, ls_of, stat_of, replicas_of, put_of, get_of, truncate_of, file_order, tree_order, order_of, directory_at, client_of, settings_of, who_of, serving_of, make_of, osd_of, mrc_of, dir_of, check_of, cluster_of, node_job, job_in, chosen_in, unless_fault, job_of}
 use Rattle.command_words.specs.declared.job.Settings.{Settings}
 use Rattle.command_words.specs.declared.job.Serving.{Serving}
 use Rattle.command_words.specs.declared.job.Defaults.{Defaults}
@@ -176,6 +176,10 @@ stat_within : (inside : Bool) (rows : Rows) → IfSome (stat_of rows) (IsOrder i
 unfolding stat_of
 stat_within inside rows = of_path inside rows (λ path. order.Stat path) (λ path. (tt {0}, tt {0}))
 
+replicas_within : (inside : Bool) (rows : Rows) → IfSome (replicas_of rows) (IsOrder inside)
+unfolding replicas_of
+replicas_within inside rows = of_path inside rows (λ path. order.Replicas path) (λ path. (tt {0}, tt {0}))
+
 -- a line names a pattern
 abbrev IsNamed : Bool → Option ℕ → Type 0
 IsNamed true None = ⊥
@@ -216,9 +220,10 @@ unfolding file_order
 file_order_within inside name rows =
     either (IsOrder inside) (named (codes "ls") name) _ _ (ls_within inside rows)
     (either (IsOrder inside) (named (codes "stat") name) _ _ (stat_within inside rows)
+    (either (IsOrder inside) (named (codes "replicas") name) _ _ (replicas_within inside rows)
     (either (IsOrder inside) (named (codes "put") name) _ _ (put_within inside rows)
     (either (IsOrder inside) (named (codes "get") name) _ _ (get_within inside rows)
-    (either (IsOrder inside) (named (codes "truncate") name) (truncate_of rows) None (truncate_within inside rows) tt))))
+    (either (IsOrder inside) (named (codes "truncate") name) (truncate_of rows) None (truncate_within inside rows) tt)))))
 
 tree_order_within : (inside : Bool) (name : Text) (rows : Rows) → IfSome (tree_order inside name rows) (IsOrder inside)
 unfolding tree_order

@@ -159,6 +159,9 @@ ls_app inside = client_options inside (placed 1 (codes "path") (plain_app (codes
 unfoldable pub stat_app : Bool → App
 stat_app inside = client_options inside (placed 1 (codes "path") (plain_app (codes "stat")))
 
+unfoldable pub replicas_app : Bool → App
+replicas_app inside = client_options inside (placed 1 (codes "path") (plain_app (codes "replicas")))
+
 unfoldable pub put_app : Bool → App
 put_app inside =
     client_options inside
@@ -209,9 +212,10 @@ with_tree_commands inside all =
 
 unfoldable pub with_file_commands : Bool → App → App
 with_file_commands inside all =
-    joined (joined (joined (joined (joined all
+    joined (joined (joined (joined (joined (joined all
     (ls_app inside))
     (stat_app inside))
+    (replicas_app inside))
     (put_app inside))
     (get_app inside))
     (truncate_app inside)

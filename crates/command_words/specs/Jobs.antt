@@ -138,6 +138,9 @@ ls_of rows = option_map (λ path. order.Ls path) (path_at (codes "path") rows)
 unfoldable pub stat_of : Rows → Option Order
 stat_of rows = option_map (λ path. order.Stat path) (path_at (codes "path") rows)
 
+unfoldable pub replicas_of : Rows → Option Order
+replicas_of rows = option_map (λ path. order.Replicas path) (path_at (codes "path") rows)
+
 -- a new file is replicated or striped
 abbrev pub layout_of : Option ℕ → Option ℕ → Option Layout
 layout_of None None = Some (layout.Replicated 1)
@@ -192,6 +195,7 @@ unfoldable pub file_order : Bool → Text → Rows → Option Order
 file_order inside name rows =
     if named (codes "ls") name then ls_of rows
     else if named (codes "stat") name then stat_of rows
+    else if named (codes "replicas") name then replicas_of rows
     else if named (codes "put") name then put_of inside rows
     else if named (codes "get") name then get_of rows
     else if named (codes "truncate") name then truncate_of rows

@@ -64,6 +64,7 @@ in_range =
     codes "chmod /a 777 --dir 127.0.0.1:7400" ∷
     codes "ls / --dir 127.0.0.1:7400 --id 4294967295 --user 0 --group 0 --tries 4294967295" ∷
     codes "stat / --dir 127.0.0.1:7400" ∷
+    codes "replicas /a --dir 127.0.0.1:7400" ∷
     codes "put /a --dir 127.0.0.1:7400" ∷
     codes "put /a --dir 127.0.0.1:7400 --pattern 281474976710656 --replicas 9 --stripe 1024" ∷
     codes "put /a --dir 127.0.0.1:7400 --striped 9 --stripe 131072" ∷
@@ -76,6 +77,7 @@ lines_in_range =
     codes "unregister 1" ∷
     codes "nodes" ∷
     codes "mkdir /a" ∷
+    codes "replicas /a" ∷
     codes "put /a --pattern 10" ∷
     codes "get /a --hex --id 501" ∷
     codes "truncate /a 0" ∷ []
@@ -166,6 +168,8 @@ out_of_range =
     codes "mkdir /a --dir 127.0.0.1:7400 --hex" ∷
     codes "chmod /a 778 --dir 127.0.0.1:7400" ∷
     codes "chmod /a 77 --dir 127.0.0.1:7400" ∷
+    codes "replicas --dir 127.0.0.1:7400" ∷
+    codes "replicas /a" ∷
     codes "put /a --dir 127.0.0.1:7400 --pattern 281474976710657" ∷
     codes "put /a --dir 127.0.0.1:7400 --replicas 0" ∷
     codes "put /a --dir 127.0.0.1:7400 --replicas 10" ∷
@@ -184,6 +188,7 @@ abbrev pub lines_out_of_range : List Text
 lines_out_of_range =
     codes "replay" ∷
     codes "check --store s" ∷
+    codes "replicas /a --dir 127.0.0.1:7400" ∷
     codes "unregister 900" ∷
     codes "nodes --dir 127.0.0.1:7400" ∷
     codes "put /a" ∷

@@ -1,18 +1,17 @@
+//! Serving as a node, and checking a store.
 ghost use Rattle.std.specs.Prelude.{◌≡◌, ◌<◌, ◌≤◌};
 ghost use Rattle.asked_jobs.specs.Asking.{IsSecret};
 ghost use Rattle.node_jobs.specs.Disks.{medium};
 ghost use Rattle.node_jobs.specs.Roles.{dir_job, mrc_job, osd_job};
 ghost use Rattle.xtfs_run.specs.Nodes.{IsNodeCommand};
-ghost use Rattle.xtfs_run.specs.Stores.{IsCheckCommand};
 
-use check_job::check_store;
 use client_jobs::close;
 use command_words::Serving;
 use disk_model::Disk;
 use node_jobs::{serve_directory, serve_metadata, serve_osd};
 use node_links::{Clock, Link, Sink};
 use std::alloc::Global;
-use xt_base::{Address, Name, NodeId};
+use xt_base::{Address, NodeId};
 use xt_messages::Status;
 
 /// Serves the directory, and puts the last line of the status.
@@ -147,21 +146,5 @@ pub fn run_osd<K: Sink, L: Link, D: Disk, C: Clock>(
         result.0 }
 {
     let (said, disk) = serve_osd(alloc, id, serving, dir, out, link, disk, clock);
-    (close(alloc, out, said), disk)
-}
-
-/// Checks a store, and puts the last line of the status.
-pub fn run_check<K: Sink, D: Disk>(
-    alloc: Global,
-    store: &Name,
-    limit: u64,
-    out: &mut K,
-    disk: D,
-) -> (Status, D)
-    ensures { IsCheckCommand (medium D.is_told D.kept D.moment D.left_since D.fault_count) limit
-        disk result.1 (K.held out.old) (K.held out.new) (K.fault_count out.old)
-        (K.fault_count out.new) result.0 }
-{
-    let (said, disk) = check_store(alloc, store.as_str(), limit, out, disk);
     (close(alloc, out, said), disk)
 }

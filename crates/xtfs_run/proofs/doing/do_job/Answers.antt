@@ -79,9 +79,10 @@ returns-in-Osd g c =
 pub returns-in-Check : goal.returns-in-Check
 returns-in-Check g c =
     checks c.in-Check.store c.in-Check.limit (ap Some c.in-Check.is) (record {
-      check = c.run_check.ensures;
+      command = c.run_check.ensures;
       unread = record { left = refl; faults = refl };
-      offline = record { given = refl; sent = refl; losses = refl; readings = refl; link_faults = refl; clock_faults = refl };
+      offline = record { given = refl; sent = refl; losses = refl; faults = refl };
+      timeless = record { readings = refl; faults = refl };
       childless = record { calls = refl; faults = refl };
     })
 
