@@ -1,0 +1,224 @@
+-- a Wake goes to the first file that gets a choice
+use Rattle.std.proofs.Common.{◌≡◌, ◌∙◌, ℕ, zero, suc, ◌+◌, ◌<◌, ◌≤◌, Bool, true, false, cond, List, [], ◌∷◌, ◌++◌, length, get_or, take, drop, Option, Some, None, refl, ap, sym, arith, add-one, append-nil, append_assoc}
+use Rattle.std.proofs.Math.Seq.{drop-cons}
+use Rattle.std.specs.Option.{option_map}
+use Rattle.xt_messages.specs.declared.message.Msg.{Msg}
+use Rattle.xt_protocol.specs.Turns.{sends}
+use Rattle.change_rows.specs.declared.Choice.{Choice}
+use Rattle.change_rows.specs.Coordinating.{Running, Step, chooses, has_number, passes, reminders, ripe, woken, woken_by, all_reminders}
+use Rattle.list_coordinator.specs.declared.changes.Ripe.{Ripe}
+use Rattle.list_coordinator.specs.Wakes.{asked_before, asked_here, chosen_at, first_ripe, next_place, ripe_here}
+
+-- ---- a Wake by the first that gets a choice
+
+abbrev by_first : List Running → List Msg → Option Ripe → Step
+by_first rs asked None = record { running = rs; turned = sends asked }
+by_first rs asked (Some first) = chosen_at (take first.place rs) (drop first.place rs) asked first.choice
+
+-- a file that passes stands before what the others give
+passed : (r : Running) (own : List Msg) (earlier rest : List Running) (asked : List Msg) (choice : Choice)
+    → passes r own (chosen_at earlier rest asked choice) ≡ chosen_at (r ∷ earlier) rest (own ++ asked) choice
+passed r own earlier [] asked choice = refl
+passed r own earlier (x ∷ later) asked choice =
+    let chosen = chooses x later choice in
+    let step : List Msg → Step = λ outs. record { running = r ∷ (earlier ++ chosen.running); turned = record { rec = chosen.turned.rec; outs = outs; marks = chosen.turned.marks } } in
+    ap step (sym (append_assoc own asked chosen.turned.outs))
+
+passed_by : (r : Running) (own : List Msg) (rs : List Running) (asked : List Msg) (first : Option Ripe)
+    → passes r own (by_first rs asked first) ≡ by_first (r ∷ rs) (own ++ asked) (option_map next_place first)
+passed_by r own rs asked None = refl
+passed_by r own rs asked (Some first) = passed r own (take first.place rs) (drop first.place rs) asked first.choice
+
+woken_so : (now : ℕ) (rs : List Running) → woken now rs ≡ by_first rs (asked_before now rs) (first_ripe now rs)
+woken_so now [] = refl
+woken_so now (r ∷ rs) = by (woken_so now rs) (ripe now r)
+  where
+    at : woken now rs ≡ by_first rs (asked_before now rs) (first_ripe now rs) → (choice : Choice) → (numbered : Bool)
+        → cond numbered (chooses r rs choice) (passes r [] (woken now rs))
+        ≡ by_first (r ∷ rs) (cond numbered [] (asked_before now rs)) (cond numbered (Some (record { place = 0; choice = choice })) (option_map next_place (first_ripe now rs)))
+    at later choice true = refl
+    at later choice false = ap (passes r []) later ∙ passed_by r [] rs (asked_before now rs) (first_ripe now rs)
+
+    by : woken now rs ≡ by_first rs (asked_before now rs) (first_ripe now rs) → (choice : Option Choice)
+        → woken_by r rs (woken now rs) choice
+        ≡ by_first (r ∷ rs) (asked_here choice (reminders r) (asked_before now rs)) (ripe_here choice (option_map next_place (first_ripe now rs)))
+    by later None = ap (passes r (reminders r)) later ∙ passed_by r (reminders r) rs (asked_before now rs) (first_ripe now rs)
+    by later (Some choice) = at later choice (has_number choice)
+
+-- none gets a choice
+pub woken_without : (now : ℕ) (rs : List Running) → first_ripe now rs ≡ None → (let step : Step = record { running = rs; turned = sends (asked_before now rs) } in woken now rs ≡ step)
+woken_without now rs none = woken_so now rs ∙ ap (by_first rs (asked_before now rs)) none
+
+-- this one does
+pub woken_with : (now : ℕ) (rs : List Running) (first : Ripe) → first_ripe now rs ≡ Some first
+    → woken now rs ≡ chosen_at (take first.place rs) (drop first.place rs) (asked_before now rs) first.choice
+woken_with now rs first is = woken_so now rs ∙ ap (by_first rs (asked_before now rs)) is
+
+-- ---- where it stands
+
+next_within : (n : ℕ) (later : Option Ripe) (first : Ripe) → ((r : Ripe) → later ≡ Some r → r.place < n) → option_map next_place later ≡ Some first → first.place < suc n
+next_within n None first within is = absurd (cc)
+next_within n (Some r) first within is =
+    let here : suc r.place ≡ first.place = ap place_or (is) in
+    let lt : r.place < n = within r refl in
+    omega arith
+  where
+    place_or : Option Ripe → ℕ
+    place_or None = 0
+    place_or (Some x) = x.place
+
+pub place_within : (now : ℕ) (rs : List Running) (first : Ripe) → first_ripe now rs ≡ Some first → first.place < length rs
+place_within now [] first is = absurd (cc)
+place_within now (r ∷ rs) first is = by (place_within now rs) (ripe now r) is
+  where
+    at : ((x : Ripe) → first_ripe now rs ≡ Some x → x.place < length rs) → (choice : Choice) (numbered : Bool)
+        → cond numbered (Some (record { place = 0; choice = choice })) (option_map next_place (first_ripe now rs)) ≡ Some first → first.place < suc (length rs)
+    at later choice true is =
+        let here : 0 ≡ first.place = ap place_or is in
+        omega arith
+      where
+        place_or : Option Ripe → ℕ
+        place_or None = 0
+        place_or (Some x) = x.place
+    at later choice false is = next_within (length rs) (first_ripe now rs) first later is
+
+    by : ((x : Ripe) → first_ripe now rs ≡ Some x → x.place < length rs) → (choice : Option Choice)
+        → ripe_here choice (option_map next_place (first_ripe now rs)) ≡ Some first → first.place < suc (length rs)
+    by later None is = next_within (length rs) (first_ripe now rs) first later is
+    by later (Some choice) is = at later choice (has_number choice) is
+
+-- ---- going through the files
+
+-- so many places further on
+abbrev pub shift : ℕ → Ripe → Ripe
+shift places r = record { place = places + r.place; choice = r.choice }
+
+-- a file gets no choice at this clock, and is asked this
+pub record Passes (now : ℕ) (r : Running) (own : List Msg) : Type 0 where
+  pub first : (later : Option Ripe) → ripe_here (ripe now r) later ≡ later
+  pub asks : (later : List Msg) → asked_here (ripe now r) (reminders r) later ≡ own ++ later
+
+pub none_passes : (now : ℕ) (r : Running) (own : List Msg) → None ≡ ripe now r → own ≡ reminders r → Passes now r own
+none_passes now r own none is =
+    record {
+      first = λ later. ap (λ (o : Option Choice). ripe_here o later) (sym none);
+      asks = λ later. ap (λ (o : Option Choice). asked_here o (reminders r) later) (sym none) ∙ ap (λ (ms : List Msg). ms ++ later) (sym is);
+    }
+
+pub numberless_passes : (now : ℕ) (r : Running) (choice : Choice) → Some choice ≡ ripe now r → false ≡ has_number choice → Passes now r []
+numberless_passes now r choice some without =
+    record {
+      first = λ later.
+          ap (λ (o : Option Choice). ripe_here o later) (sym some)
+          ∙ ap (λ (t : Bool). cond t (Some (record { place = 0; choice = choice })) later) (sym without);
+      asks = λ later.
+          ap (λ (o : Option Choice). asked_here o (reminders r) later) (sym some) ∙ ap (λ (t : Bool). cond t [] later) (sym without);
+    }
+
+-- what is known after the files before a place: the first one stands from there on, and those before it were asked
+pub record GoneTo (now : ℕ) (rs : List Running) (place : ℕ) (before so_far : List Msg) : Type 0 where
+  pub first : first_ripe now rs ≡ option_map (shift place) (first_ripe now (drop place rs))
+  pub asked : so_far ++ asked_before now (drop place rs) ≡ before ++ asked_before now rs
+
+same_place : (first : Option Ripe) → first ≡ option_map (shift 0) first
+same_place None = refl
+same_place (Some r) = ap (λ (place : ℕ). let same : Ripe = record { place = place; choice = r.choice } in Some same) (omega arith)
+
+pub gone_nowhere : (now : ℕ) (rs : List Running) (outs : List Msg) → GoneTo now rs 0 outs outs
+gone_nowhere now rs outs = record { first = same_place (first_ripe now rs); asked = refl }
+
+further : (place : ℕ) (first : Option Ripe) → option_map (shift place) (option_map next_place first) ≡ option_map (shift (place + 1)) first
+further place None = refl
+further place (Some r) =
+    let sum : place + suc r.place ≡ (place + 1) + r.place = omega arith in
+    ap (λ (p : ℕ). let same : Ripe = record { place = p; choice = r.choice } in Some same) sum
+
+-- the files from a place on
+from_place : (rs : List Running) (place : ℕ) (r : Running) → place < length rs → r ≡ get_or rs place r → drop place rs ≡ r ∷ drop (place + 1) rs
+from_place rs place r lt is = drop-cons rs place r lt ∙ ap (λ (x : Running). x ∷ drop (suc place) rs) (sym is) ∙ rw add-one refl
+
+pub gone_on : (now : ℕ) (rs : List Running) (place : ℕ) (before so_far own new : List Msg) (r : Running) → place < length rs → r ≡ get_or rs place r → Passes now r own
+    → new ≡ so_far ++ own → GoneTo now rs place before so_far → GoneTo now rs (place + 1) before new
+gone_on now rs place before so_far own new r lt is passes added gone =
+    let left = drop (place + 1) rs in
+    let there = from_place rs place r lt is in
+    record {
+      first =
+          gone.first
+          ∙ ap (λ (xs : List Running). option_map (shift place) (first_ripe now xs)) there
+          ∙ ap (option_map (shift place)) (passes.first (option_map next_place (first_ripe now left)))
+          ∙ further place (first_ripe now left);
+      asked =
+          ap (λ (ms : List Msg). ms ++ asked_before now left) added
+          ∙ append_assoc so_far own (asked_before now left)
+          ∙ ap (λ (ms : List Msg). so_far ++ ms) (sym (passes.asks (asked_before now left)))
+          ∙ ap (λ (xs : List Running). so_far ++ asked_before now xs) (sym there)
+          ∙ gone.asked;
+    }
+
+-- the file at a place is the first one
+pub first_here : (now : ℕ) (rs : List Running) (place : ℕ) (before so_far : List Msg) (r : Running) (choice : Choice) → place < length rs → r ≡ get_or rs place r
+    → Some choice ≡ ripe now r → true ≡ has_number choice → GoneTo now rs place before so_far
+    → (let first : Ripe = record { place = place; choice = choice } in Some first ≡ first_ripe now rs) × (so_far ≡ before ++ asked_before now rs)
+first_here now rs place before so_far r choice lt is some numbered gone = (sym ripe_so, asked_so)
+  where
+    left : List Running
+    left = drop (place + 1) rs
+
+    there : drop place rs ≡ r ∷ drop (place + 1) rs
+    there = from_place rs place r lt is
+
+    here : Ripe
+    here = record { place = 0; choice = choice }
+
+    first_so : first_ripe now (drop place rs) ≡ Some here
+    unfolding here
+    first_so =
+        ap (first_ripe now) there
+        ∙ ap (λ (o : Option Choice). ripe_here o (option_map next_place (first_ripe now (drop (place + 1) rs)))) (sym some)
+        ∙ ap (λ (t : Bool). cond t (Some (record { place = 0; choice = choice })) (option_map next_place (first_ripe now (drop (place + 1) rs)))) (sym numbered)
+
+    ripe_so : first_ripe now rs ≡ Some (record { place = place; choice = choice })
+    unfolding here
+    ripe_so =
+        gone.first ∙ ap (option_map (shift place)) first_so
+        ∙ ap (λ (p : ℕ). let first : Ripe = record { place = p; choice = choice } in Some first) (let sum : place + 0 ≡ place = omega arith in sum)
+
+    none_so : asked_before now (drop place rs) ≡ []
+    none_so =
+        ap (asked_before now) there
+        ∙ ap (λ (o : Option Choice). asked_here o (reminders r) (asked_before now (drop (place + 1) rs))) (sym some)
+        ∙ ap (λ (t : Bool). cond t [] (asked_before now (drop (place + 1) rs))) (sym numbered)
+
+    asked_so : so_far ≡ before ++ asked_before now rs
+    asked_so = sym (append-nil so_far) ∙ ap (λ (ms : List Msg). so_far ++ ms) (sym none_so) ∙ gone.asked
+
+-- no file is left
+pub none_first : (now : ℕ) (rs : List Running) (place : ℕ) (before so_far : List Msg) → length rs ≤ place → GoneTo now rs place before so_far
+    → (None ≡ first_ripe now rs) × (so_far ≡ before ++ asked_before now rs)
+none_first now rs place before so_far past gone =
+    let none : drop place rs ≡ [] = drop_past rs place past in (
+      sym (gone.first ∙ ap (λ (xs : List Running). option_map (shift place) (first_ripe now xs)) none),
+      sym (append-nil so_far) ∙ ap (λ (xs : List Running). so_far ++ asked_before now xs) (sym none) ∙ gone.asked,
+    )
+  where
+    drop_past : (rs : List Running) (place : ℕ) → length rs ≤ place → drop place rs ≡ []
+    drop_past [] place past = nothing place
+      where
+        nothing : (n : ℕ) → (let none : List Running = [] in drop n none ≡ none)
+        nothing zero = refl
+        nothing (suc n) = refl
+    drop_past (x ∷ xs) zero past = absurd (omega arith)
+    drop_past (x ∷ xs) (suc place) past = drop_past xs place (omega arith)
+
+-- ---- asking all
+
+pub asked_all_before : (rs : List Running) (place : ℕ) (r : Running) (before so_far own new : List Msg) → place < length rs → r ≡ get_or rs place r → own ≡ reminders r → new ≡ so_far ++ own
+    → so_far ++ all_reminders (drop place rs) ≡ before ++ all_reminders rs → new ++ all_reminders (drop (place + 1) rs) ≡ before ++ all_reminders rs
+asked_all_before rs place r before so_far own new lt is asks added so =
+    let left = all_reminders (drop (place + 1) rs) in
+    ap (λ (ms : List Msg). ms ++ left) added
+    ∙ append_assoc so_far own left
+    ∙ ap (λ (ms : List Msg). so_far ++ (ms ++ left)) asks
+    ∙ ap (λ (xs : List Running). so_far ++ all_reminders xs) (sym (from_place rs place r lt is))
+    ∙ so
