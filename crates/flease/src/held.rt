@@ -126,6 +126,13 @@ impl Held {
         }
     }
 
+    /// The lease and its renewal are over.
+    pub fn give_up(self) -> Free
+        ensures { result ≡ self.proposer }
+    {
+        Free::of(self.proposer)
+    }
+
     /// Starts a round that renews the lease, at the clock `now`, below 2^62. A Read is to go to all members.
     pub fn renew(&mut self, now: u64, members: &Members) -> Ballot
         requires turn { IsTrue (protocol.has_turn self.old now) }
