@@ -3,7 +3,8 @@ use Rattle.std.proofs.Common.{◌≡◌, ◌∙◌, ℕ, zero, suc, ◌+◌, ◌
 use Rattle.std.proofs.Math.Seq.{drop-cons}
 use Rattle.std.specs.Option.{option_map}
 use Rattle.xt_messages.specs.declared.message.Msg.{Msg}
-use Rattle.xt_protocol.specs.Turns.{sends}
+use Rattle.xt_protocol.specs.declared.turned.Turned.{Turned}
+use Rattle.xt_protocol.specs.Turns.{joined, sends}
 use Rattle.change_rows.specs.declared.Choice.{Choice}
 use Rattle.change_rows.specs.Coordinating.{Running, Step, chooses, has_number, passes, reminders, ripe, woken, woken_by, all_reminders}
 use Rattle.list_coordinator.specs.declared.changes.Ripe.{Ripe}
@@ -53,6 +54,40 @@ woken_without now rs none = woken_so now rs ∙ ap (by_first rs (asked_before no
 pub woken_with : (now : ℕ) (rs : List Running) (first : Ripe) → first_ripe now rs ≡ Some first
     → woken now rs ≡ chosen_at (take first.place rs) (drop first.place rs) (asked_before now rs) first.choice
 woken_with now rs first is = woken_so now rs ∙ ap (by_first rs (asked_before now rs)) is
+
+-- after messages that are sent before
+pub none_woken : (now : ℕ) (rs : List Running) (before outs : List Msg) → None ≡ first_ripe now rs → outs ≡ before ++ asked_before now rs
+    → (sends outs ≡ joined (sends before) (woken now rs).turned) × (rs ≡ (woken now rs).running)
+none_woken now rs before outs none asked =
+    let is = woken_without now rs (sym none) in (
+      ap sends asked ∙ sym (ap (λ (s : Step). joined (sends before) s.turned) is),
+      sym (ap (λ (s : Step). s.running) is),
+    )
+
+chosen_after : (earlier rest : List Running) (before asked : List Msg) (choice : Choice)
+    → (chosen_at earlier rest (before ++ asked) choice).turned ≡ joined (sends before) (chosen_at earlier rest asked choice).turned
+chosen_after earlier [] before asked choice = refl
+chosen_after earlier (r ∷ later) before asked choice =
+    let step = chooses r later choice in
+    ap (λ (outs : List Msg). let turned : Turned = record step.turned { outs = outs } in turned) (append_assoc before asked step.turned.outs)
+
+chosen_running : (earlier rest : List Running) (first second : List Msg) (choice : Choice) → (chosen_at earlier rest first choice).running ≡ (chosen_at earlier rest second choice).running
+chosen_running earlier [] first second choice = refl
+chosen_running earlier (r ∷ later) first second choice = refl
+
+pub some_woken : (now : ℕ) (rs after : List Running) (before outs : List Msg) (first : Ripe) (turned : Turned) → Some first ≡ first_ripe now rs → outs ≡ before ++ asked_before now rs
+    → chosen_at (take first.place rs) (drop first.place rs) outs first.choice ≡ record { running = after; turned = turned }
+    → (turned ≡ joined (sends before) (woken now rs).turned) × (after ≡ (woken now rs).running)
+some_woken now rs after before outs first turned some asked is =
+    let earlier = take first.place rs in
+    let rest = drop first.place rs in
+    let woke = woken_with now rs first (sym some) in
+    let so = ap (λ (ms : List Msg). chosen_at earlier rest ms first.choice) (sym asked) ∙ is in (
+      sym (ap (λ (s : Step). s.turned) so) ∙ chosen_after earlier rest before (asked_before now rs) first.choice
+      ∙ sym (ap (λ (s : Step). joined (sends before) s.turned) woke),
+      sym (ap (λ (s : Step). s.running) so) ∙ chosen_running earlier rest (before ++ asked_before now rs) (asked_before now rs) first.choice
+      ∙ sym (ap (λ (s : Step). s.running) woke),
+    )
 
 -- ---- where it stands
 

@@ -2,6 +2,8 @@
 ghost use Rattle.std.specs.Prelude.{◌≡◌, ◌<◌, ◌≤◌, ◌+◌, ◌^◌, ◌++◌, [], None, Some, MatchOption, IfOk, OnOk, OnErr, length, take, drop};
 ghost use Rattle.std.specs.List.{insert};
 ghost use Rattle.std.specs.Vec.{vec_len, vec_capacity};
+ghost use Rattle.xt_protocol.specs.Turns as turns;
+ghost use Rattle.xt_protocol.specs.Turns.{joined};
 ghost use Rattle.change_rows.specs.Coordinating as rows;
 ghost use Rattle.list_coordinator.specs.Places.{ChangesRise, IsChangePlace};
 ghost use Rattle.list_coordinator.specs.Wakes.{asked_before, chosen_at, first_ripe};
@@ -255,14 +257,20 @@ impl Changes {
         })
     }
 
-    /// A Wake at a clock: the first file that is ripe gets its choice, and all others are asked again. A file that is ripe and has no
-    /// number left for its promise is neither given a choice nor asked. After an error the changes are as they were.
-    pub fn wake(&mut self, alloc: Global, now: u64) -> Result<Turned, OutOfMemory>
-        ensures ok { IfOk result (λ turned. rows.woken now self.old.files.items ≡
-            record { running = self.new.files.items; turned = turned }) }
+    /// A Wake at a clock, after these messages: the first file that is ripe gets its choice, and all others are asked again. A file that is
+    /// ripe and has no number left for its promise is neither given a choice nor asked. After an error the changes are as they were.
+    pub fn wake(
+        &mut self,
+        alloc: Global,
+        now: u64,
+        mut outs: Msgs,
+    ) -> Result<Turned, OutOfMemory>
+        ensures turned { IfOk result (λ turned. turned ≡
+            joined (turns.sends outs) (rows.woken now self.old.files.items).turned) }
+        ensures running { OnOk result (self.new.files.items ≡
+            (rows.woken now self.old.files.items).running) }
         ensures err { OnErr result (self.new.files.items ≡ self.old.files.items) }
     {
-        let mut outs = Seq::new(alloc);
         match first_ripe(alloc, self.files.as_slice(), now, &mut outs)? {
             None => Ok(sends(alloc, outs)),
             Some(ripe) => self.choose(alloc, ripe, outs),
