@@ -1,0 +1,4 @@
+pub mod Known
+pub mod Owning
+pub mod Planning
+pub mod Fitting
