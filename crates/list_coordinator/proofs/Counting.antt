@@ -44,7 +44,6 @@ installs_file r from version (Some choice) = at ((installed_by r.change from ver
     after = record { change = (installed_by r.change from version).change; choice = r.choice; listed = r.listed }
 
     at : (t : Bool) → (let step : FileStep = cond t (lists after choice) (record { running = after; turned = quiet }) in file_of step.running ≡ (installed_by r.change from version).change.file)
-    unfolding after
     at true = refl
     at false = refl
 

@@ -207,14 +207,12 @@ first_here now rs place before so_far r choice lt is some numbered gone = (sym r
     here = record { place = 0; choice = choice }
 
     first_so : first_ripe now (drop place rs) ≡ Some here
-    unfolding here
     first_so =
         ap (first_ripe now) there
         ∙ ap (λ (o : Option Choice). ripe_here o (option_map next_place (first_ripe now (drop (place + 1) rs)))) (sym some)
         ∙ ap (λ (t : Bool). cond t (Some (record { place = 0; choice = choice })) (option_map next_place (first_ripe now (drop (place + 1) rs)))) (sym numbered)
 
     ripe_so : first_ripe now rs ≡ Some (record { place = place; choice = choice })
-    unfolding here
     ripe_so =
         gone.first ∙ ap (option_map (shift place)) first_so
         ∙ ap (λ (p : ℕ). let first : Ripe = record { place = p; choice = choice } in Some first) (let sum : place + 0 ≡ place = omega arith in sum)

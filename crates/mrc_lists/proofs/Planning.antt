@@ -16,7 +16,8 @@ use Rattle.volume_rows.specs.Rows.{Volumes}
 use Rattle.volume_rows.specs.Requests.{Outcome}
 use Rattle.server_rows.specs.Laws.{IsChange}
 use Rattle.server_rows.specs.declared.MadeFile.{MadeFile}
-use Rattle.server_rows.specs.Requests.{grant_at, is_done, is_last_epoch, made_after, made_by, marks_of, outcome_of, settled, wants_truncating}
+use Rattle.server_rows.specs.declared.NewSizes.{NewSizes}
+use Rattle.server_rows.specs.Requests.{grant_at, is_done, is_last_epoch, made_after, made_by, marks_of, outcome_of, settled, wants_truncating, with_sizes}
 use Rattle.server_rows.specs.Metadata.{Catalogue}
 use Rattle.reply_cache.specs.Standings.{with_answer}
 use Rattle.mrc_core.specs.declared.asking.Site.{Site}
@@ -29,7 +30,7 @@ use Rattle.mrc_core.specs.Plans.{IsGrantPlan, IsPlan}
 use Rattle.mrc_core.specs.Settling.{answer_of, settlement_of}
 use Rattle.change_rows.specs.Coordinating.{Running}
 use Rattle.list_changes.specs.Lists.{Beginning, beginning_answer, with_list}
-use Rattle.list_changes.specs.Recorded.{Recorded}
+use Rattle.list_changes.specs.Recorded.{Recorded, after_request_with}
 use Rattle.list_changes.specs.Requests.{begun_by, beginning_on, outcome_with, running_after}
 use Rattle.mrc_lists.specs.declared.plan.ListPlan.TheVariants as listed
 use Rattle.mrc_lists.specs.Asking.{known_after, outcome_on}
@@ -95,14 +96,8 @@ change_outcome key volumes running who now nodes (ask.Change path next) change =
 change_outcome key volumes running who now nodes request change = refl
 
 module _ (site : Site) (times : TimeSettings) (known : Recorded) (asking : Asking) (nodes : Option (List NodeId)) where
-  volumes : Volumes
-  volumes = known.catalogue.volumes
-
-  request : MetaReq
-  request = asking.request.now
-
   -- what is known, by what comes of the request
-  after_outcome : Outcome → Recorded
+  abbrev after_outcome : Outcome → Recorded
   after_outcome outcome =
       record {
         catalogue =
@@ -118,7 +113,6 @@ module _ (site : Site) (times : TimeSettings) (known : Recorded) (asking : Askin
       → catalogue ≡ after_asking site known.catalogue asking nodes → answer ≡ (outcome_at site known.catalogue asking nodes).answer
       → running ≡ running_after times known.catalogue.volumes known.running asking.who nodes asking.request.now answer
       → (let made : Recorded = record { catalogue = catalogue; running = running } in made ≡ known_after site times known asking nodes)
-  unfolding after_outcome
   change_known catalogue running answer change is told rest =
       let plain = outcome_at site known.catalogue asking nodes in
       let run : MetaAnswer → List Running = λ a. running_after times known.catalogue.volumes known.running asking.who nodes asking.request.now a in
@@ -138,7 +132,6 @@ module _ (site : Site) (times : TimeSettings) (known : Recorded) (asking : Askin
   pub set_known : (settling : Settling) (catalogue : Catalogue) → SetsWith site known asking.who nodes asking.request.now settling
       → catalogue ≡ after_setting known.catalogue asking.client asking.number settling
       → (let made : Recorded = record { catalogue = catalogue; running = known.running } in made ≡ known_after site times known asking nodes)
-  unfolding after_outcome
   set_known settling catalogue sets is =
       let outcome = settled known.catalogue.volumes (settlement_of settling) in
       let by : List (ℕ × MadeFile) → List Running → Recorded = λ made running.
@@ -151,3 +144,38 @@ module _ (site : Site) (times : TimeSettings) (known : Recorded) (asking : Askin
       ∙ ap (λ (m : List (ℕ × MadeFile)). by m known.running) (sym (still_made outcome.answer (sets.no_file nodes known.catalogue.made)))
       ∙ ap (λ (rs : List Running). by (made_after known.catalogue.volumes site.clock nodes asking.request.now outcome.answer known.catalogue.made) rs) (sym (sets.rests times nodes outcome.answer))
       ∙ ap after_outcome (sym (sets.outcome nodes))
+
+
+-- what is known after a change that was asked for began, or was refused
+pub begin_known : (key : List ℕ) (times : TimeSettings) (known : Recorded) (client : NodeId) (number now : ℕ) (nodes : Option (List NodeId)) (who : Asker) (request : MetaReq)
+    (begun : Result Beginning MetaRefusal) (settling : Settling) (catalogue : Catalogue) (running : List Running) → BeginsWith known who nodes request begun → settling.sets ≡ None
+    → answer_of settling.settled ≡ beginning_answer begun → catalogue ≡ after_setting known.catalogue client number settling → running ≡ begun_by times known.running begun
+    → (let made : Recorded = record { catalogue = catalogue; running = running } in made ≡ after_request_with key times known client number now nodes who request)
+begin_known key times known client number now nodes who request begun settling catalogue running begins unset told is rest =
+    ap (λ (c : Catalogue). let made : Recorded = record { catalogue = c; running = running } in made) is
+    ∙ ap (λ (o : Option NewSizes). known_by (with_sizes known.catalogue.volumes o) known.catalogue.made (answer_of settling.settled) running) unset
+    ∙ ap (λ (a : MetaAnswer). known_by known.catalogue.volumes known.catalogue.made a running) told
+    ∙ ap (λ (m : List (ℕ × MadeFile)). known_by known.catalogue.volumes m (beginning_answer begun) running) (sym (still (is_done (beginning_answer begun))))
+    ∙ ap (λ (rs : List Running). known_by known.catalogue.volumes (cond (is_done (beginning_answer begun)) known.catalogue.made known.catalogue.made) (beginning_answer begun) rs) rest
+    ∙ ap by_begun begins.begins
+    ∙ ap (λ (r : MetaReq). after_request_with key times known client number now nodes who r) (sym begins.is)
+  where
+    abbrev known_by : Volumes → List (ℕ × MadeFile) → MetaAnswer → List Running → Recorded
+    known_by volumes made answer running =
+        record { catalogue = record { volumes = volumes; made = made; clients = with_answer known.catalogue.clients client number answer }; running = running }
+
+    abbrev by_begun : Result Beginning MetaRefusal → Recorded
+    by_begun b =
+        record {
+          catalogue =
+              record {
+                volumes = known.catalogue.volumes;
+                made = cond (is_done (beginning_answer b)) known.catalogue.made known.catalogue.made;
+                clients = with_answer known.catalogue.clients client number (beginning_answer b);
+              };
+          running = begun_by times known.running b;
+        }
+
+    still : (t : Bool) → cond t known.catalogue.made known.catalogue.made ≡ known.catalogue.made
+    still true = refl
+    still false = refl
