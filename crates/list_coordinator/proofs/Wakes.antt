@@ -8,7 +8,7 @@ use Rattle.xt_protocol.specs.Turns.{joined, sends}
 use Rattle.change_rows.specs.declared.Choice.{Choice}
 use Rattle.change_rows.specs.Coordinating.{Running, Step, chooses, has_number, passes, reminders, ripe, woken, woken_by, all_reminders}
 use Rattle.list_coordinator.specs.declared.changes.Ripe.{Ripe}
-use Rattle.list_coordinator.specs.Wakes.{asked_before, asked_here, chosen_at, first_ripe, next_place, ripe_here}
+use Rattle.list_coordinator.specs.Wakes.{asked_alone, asked_before, asked_here, chosen_at, chosen_of, first_ripe, next_place, ripe_here}
 
 -- ---- a Wake by the first that gets a choice
 
@@ -133,22 +133,29 @@ pub record Passes (now : ℕ) (r : Running) (own : List Msg) : Type 0 where
   pub first : (later : Option Ripe) → ripe_here (ripe now r) later ≡ later
   pub asks : (later : List Msg) → asked_here (ripe now r) (reminders r) later ≡ own ++ later
 
-pub none_passes : (now : ℕ) (r : Running) (own : List Msg) → None ≡ ripe now r → own ≡ reminders r → Passes now r own
-none_passes now r own none is =
-    record {
-      first = λ later. ap (λ (o : Option Choice). ripe_here o later) (sym none);
-      asks = λ later. ap (λ (o : Option Choice). asked_here o (reminders r) later) (sym none) ∙ ap (λ (ms : List Msg). ms ++ later) (sym is);
-    }
+passes_so : (now : ℕ) (r : Running) → None ≡ chosen_of (ripe now r) → Passes now r (asked_alone now r)
+passes_so now r none = let facts = of_choice (ripe now r) none in record { first = facts.0; asks = facts.1 }
+  where
+    at : (choice : Choice) (numbered : Bool) → None ≡ cond numbered (Some choice) None
+        → ((later : Option Ripe) → cond numbered (Some (record { place = 0; choice = choice })) later ≡ later)
+        × ((later : List Msg) → cond numbered [] later ≡ cond numbered [] [] ++ later)
+    at choice true none = absurd (cc)
+    at choice false none = ((λ later. refl), (λ later. refl))
 
-pub numberless_passes : (now : ℕ) (r : Running) (choice : Choice) → Some choice ≡ ripe now r → false ≡ has_number choice → Passes now r []
-numberless_passes now r choice some without =
-    record {
-      first = λ later.
-          ap (λ (o : Option Choice). ripe_here o later) (sym some)
-          ∙ ap (λ (t : Bool). cond t (Some (record { place = 0; choice = choice })) later) (sym without);
-      asks = λ later.
-          ap (λ (o : Option Choice). asked_here o (reminders r) later) (sym some) ∙ ap (λ (t : Bool). cond t [] later) (sym without);
-    }
+    of_choice : (o : Option Choice) → None ≡ chosen_of o
+        → ((later : Option Ripe) → ripe_here o later ≡ later) × ((later : List Msg) → asked_here o (reminders r) later ≡ asked_here o (reminders r) [] ++ later)
+    of_choice None none = ((λ later. refl), (λ later. ap (λ (ms : List Msg). ms ++ later) (sym (append-nil (reminders r)))))
+    of_choice (Some choice) none = at choice (has_number choice) none
+
+pub chosen_numbered : (o : Option Choice) (choice : Choice) → Some choice ≡ chosen_of o → (Some choice ≡ o) × (true ≡ has_number choice)
+chosen_numbered None choice is = absurd (cc)
+chosen_numbered (Some it) choice is = at (has_number it) refl is
+  where
+    at : (t : Bool) → has_number it ≡ t → Some choice ≡ cond t (Some it) None → (Some choice ≡ Some it) × (true ≡ has_number choice)
+    at true numbered is =
+        let same : it ≡ choice = cc in
+        (is, sym numbered ∙ ap (λ (x : Choice). has_number x) same)
+    at false numbered is = absurd (cc)
 
 -- what is known after the files before a place: the first one stands from there on, and those before it were asked
 pub record GoneTo (now : ℕ) (rs : List Running) (place : ℕ) (before so_far : List Msg) : Type 0 where
@@ -172,9 +179,11 @@ further place (Some r) =
 from_place : (rs : List Running) (place : ℕ) (r : Running) → place < length rs → r ≡ get_or rs place r → drop place rs ≡ r ∷ drop (place + 1) rs
 from_place rs place r lt is = drop-cons rs place r lt ∙ ap (λ (x : Running). x ∷ drop (suc place) rs) (sym is) ∙ rw add-one refl
 
-pub gone_on : (now : ℕ) (rs : List Running) (place : ℕ) (before so_far own new : List Msg) (r : Running) → place < length rs → r ≡ get_or rs place r → Passes now r own
-    → new ≡ so_far ++ own → GoneTo now rs place before so_far → GoneTo now rs (place + 1) before new
-gone_on now rs place before so_far own new r lt is passes added gone =
+pub gone_on : (now : ℕ) (rs : List Running) (place : ℕ) (before so_far new : List Msg) (r : Running) → place < length rs → r ≡ get_or rs place r → None ≡ chosen_of (ripe now r)
+    → new ≡ so_far ++ asked_alone now r → GoneTo now rs place before so_far → GoneTo now rs (place + 1) before new
+gone_on now rs place before so_far new r lt is none added gone =
+    let own = asked_alone now r in
+    let passes = passes_so now r none in
     let left = drop (place + 1) rs in
     let there = from_place rs place r lt is in
     record {
@@ -192,11 +201,21 @@ gone_on now rs place before so_far own new r lt is passes added gone =
     }
 
 -- the file at a place is the first one
-pub first_here : (now : ℕ) (rs : List Running) (place : ℕ) (before so_far : List Msg) (r : Running) (choice : Choice) → place < length rs → r ≡ get_or rs place r
-    → Some choice ≡ ripe now r → true ≡ has_number choice → GoneTo now rs place before so_far
-    → (let first : Ripe = record { place = place; choice = choice } in Some first ≡ first_ripe now rs) × (so_far ≡ before ++ asked_before now rs)
-first_here now rs place before so_far r choice lt is some numbered gone = (sym ripe_so, asked_so)
+pub first_here : (now : ℕ) (rs : List Running) (place : ℕ) (before so_far new : List Msg) (r : Running) (choice : Choice) → place < length rs → r ≡ get_or rs place r
+    → Some choice ≡ chosen_of (ripe now r) → new ≡ so_far ++ asked_alone now r → GoneTo now rs place before so_far
+    → (let first : Ripe = record { place = place; choice = choice } in Some first ≡ first_ripe now rs) × (new ≡ before ++ asked_before now rs)
+first_here now rs place before so_far new r choice lt is chosen added gone = (sym ripe_so, asked_so)
   where
+    some : Some choice ≡ ripe now r
+    some = (chosen_numbered (ripe now r) choice chosen).0
+
+    numbered : true ≡ has_number choice
+    numbered = (chosen_numbered (ripe now r) choice chosen).1
+
+    alone_so : asked_alone now r ≡ []
+    alone_so =
+        ap (λ (o : Option Choice). asked_here o (reminders r) []) (sym some) ∙ ap (λ (t : Bool). let none : List Msg = [] in cond t none none) (sym numbered)
+
     left : List Running
     left = drop (place + 1) rs
 
@@ -223,8 +242,8 @@ first_here now rs place before so_far r choice lt is some numbered gone = (sym r
         ∙ ap (λ (o : Option Choice). asked_here o (reminders r) (asked_before now (drop (place + 1) rs))) (sym some)
         ∙ ap (λ (t : Bool). cond t [] (asked_before now (drop (place + 1) rs))) (sym numbered)
 
-    asked_so : so_far ≡ before ++ asked_before now rs
-    asked_so = sym (append-nil so_far) ∙ ap (λ (ms : List Msg). so_far ++ ms) (sym none_so) ∙ gone.asked
+    asked_so : new ≡ before ++ asked_before now rs
+    asked_so = added ∙ ap (λ (ms : List Msg). so_far ++ ms) (alone_so ∙ sym none_so) ∙ gone.asked
 
 -- no file is left
 pub none_first : (now : ℕ) (rs : List Running) (place : ℕ) (before so_far : List Msg) → length rs ≤ place → GoneTo now rs place before so_far

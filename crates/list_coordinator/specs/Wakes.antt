@@ -29,6 +29,15 @@ abbrev pub asked_before : ℕ → List Running → List Msg
 asked_before now [] = []
 asked_before now (r ∷ rs) = asked_here (ripe now r) (reminders r) (asked_before now rs)
 
+-- what a file that is ripe gets chosen: nothing where no number is left for its promise
+abbrev pub chosen_of : Option Choice → Option Choice
+chosen_of None = None
+chosen_of (Some choice) = if has_number choice then Some choice else None
+
+-- what a file is asked that gets no choice
+abbrev pub asked_alone : ℕ → Running → List Msg
+asked_alone now r = asked_here (ripe now r) (reminders r) []
+
 -- the first of the rest gets this choice, after the files before it were asked so
 abbrev pub chosen_at : List Running → List Running → List Msg → Choice → Step
 chosen_at earlier [] asked choice = record { running = earlier; turned = sends asked }

@@ -168,9 +168,8 @@ impl Carried {
         from: NodeId,
         version: u32,
     ) -> Result<Turned, OutOfMemory>
-        ensures ok { IfOk result (λ turned.
-            record { running = self.new; turned = turned } ≡
-            installs self.old from version self.old.choice) }
+        ensures ok { IfOk result (λ turned. installs self.old from version self.old.choice ≡
+            record { running = self.new; turned = turned }) }
         ensures err { OnErr result (self.new ≡ self.old) }
     {
         let Some(choice) = &self.choice else {

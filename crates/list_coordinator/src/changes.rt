@@ -6,7 +6,7 @@ ghost use Rattle.xt_protocol.specs.Turns as turns;
 ghost use Rattle.xt_protocol.specs.Turns.{joined};
 ghost use Rattle.change_rows.specs.Coordinating as rows;
 ghost use Rattle.list_coordinator.specs.Places.{ChangesRise, IsChangePlace};
-ghost use Rattle.list_coordinator.specs.Wakes.{asked_before, chosen_at, first_ripe};
+ghost use Rattle.list_coordinator.specs.Wakes.{asked_alone, asked_before, chosen_at, chosen_of, first_ripe};
 
 use crate::carried::Carried;
 use crate::messages::{chosen, install_each};
@@ -73,6 +73,34 @@ fn has_number(choice: &Choice) -> bool
     choice.head.promised.number < COUNTS
 }
 
+/// What a file gets chosen at this clock, if it does. One that doesn't is asked again, after the messages; but nothing where no number is
+/// left for its promise.
+fn pass(
+    alloc: Global,
+    carried: &Carried,
+    now: u64,
+    outs: &mut Msgs,
+) -> Result<Option<Choice>, OutOfMemory>
+    ensures chosen { IfOk result (λ chosen. chosen ≡ chosen_of (rows.ripe now carried.now)) }
+    ensures asked { OnOk result (outs.new ≡ outs.old ++ asked_alone now carried.now) }
+{
+    let ripe = carried.ripe(now)?;
+    match ripe {
+        None => {
+            let more = carried.reminders(alloc)?;
+            add(outs, more)?;
+            Ok(None)
+        }
+        Some(choice) => {
+            if has_number(&choice) {
+                Ok(Some(choice))
+            } else {
+                Ok(None)
+            }
+        }
+    }
+}
+
 /// The first file that gets a choice at this clock, if one does. What those before it are asked again comes after the messages.
 fn first_ripe(
     alloc: Global,
@@ -84,13 +112,9 @@ fn first_ripe(
     ensures asked { OnOk result (outs.new ≡ outs.old ++ asked_before now files.now) }
 {
     for (place, carried) in files.iter().enumerate() {
-        match carried.ripe(now)? {
-            None => add(outs, carried.reminders(alloc)?)?,
-            Some(choice) => {
-                if has_number(&choice) {
-                    return Ok(Some(Ripe { place, choice }));
-                }
-            }
+        let chosen = pass(alloc, carried, now, outs)?;
+        if let Some(choice) = chosen {
+            return Ok(Some(Ripe { place, choice }));
         }
     }
     Ok(None)
@@ -101,7 +125,8 @@ fn ask_all(alloc: Global, files: &[Carried], outs: &mut Msgs) -> Result<(), OutO
     ensures { OnOk result (outs.new ≡ outs.old ++ rows.all_reminders files.now) }
 {
     for carried in files {
-        add(outs, carried.reminders(alloc)?)?;
+        let more = carried.reminders(alloc)?;
+        add(outs, more)?;
     }
     Ok(())
 }
