@@ -10,10 +10,10 @@ ghost use Rattle.osd_files.specs.Views.{shown};
 
 use crate::letting_go::let_go;
 use crate::versions::{is_version, list_version};
-use osd_files::{Parts, both, told_no_lease};
+use osd_files::{Parts, join_next, told_no_lease};
 use xt_base::{Copies, NodeId, OptionalBox, OutOfMemory, Seq};
 use xt_messages::{Msg, Payload, Record};
-use xt_protocol::{Turned, join, message, one, quiet, sends_one};
+use xt_protocol::{Turned, message, one, quiet, sends_one};
 
 /// The head of the closed file.
 fn closed_message(file: &Parts, from: NodeId, version: u32) -> Result<Msg, OutOfMemory>
@@ -59,8 +59,8 @@ fn told_closing(file: &Parts, from: NodeId, version: u32) -> Result<Turned, OutO
         Gives (λ site s. rows.closes site s from version) now (shown file.now) turned) }
 {
     let told = told_no_lease(file)?;
-    let (told, closed) = both(told, closed_turned(file, from, version))?;
-    join(told, closed)
+    let closed = closed_turned(file, from, version);
+    join_next(told, closed)
 }
 
 /// The file once it is closed. It takes no memory.

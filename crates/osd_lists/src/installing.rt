@@ -13,10 +13,10 @@ use crate::letting_go::let_go;
 use crate::versions::list_version;
 use flease::Acceptor;
 use object_versions::first_missing;
-use osd_files::{Parts, both, told_no_lease};
+use osd_files::{Parts, both, join_next, told_no_lease};
 use xt_base::{Copies, NodeId, OptionalBox, OutOfMemory, Seq};
 use xt_messages::{FileHead, Location, Msg, ObjectVersion, Payload, Record};
-use xt_protocol::{Turned, join, message, one, sends_one};
+use xt_protocol::{Turned, message, one, sends_one};
 
 /// This version of the list is installed.
 fn installed_message(file: &Parts, from: NodeId, version: u32) -> Msg
@@ -84,8 +84,8 @@ fn told_taking(
         turned) }
 {
     let told = told_no_lease(file)?;
-    let (told, taken) = both(told, taken_turned(file, from, location, head))?;
-    join(told, taken)
+    let taken = taken_turned(file, from, location, head);
+    join_next(told, taken)
 }
 
 /// The file once the list is taken: it is kept with its head, and a new acceptor begins. It takes no memory.
