@@ -2,3 +2,4 @@ pub mod Known
 pub mod Owning
 pub mod Planning
 pub mod Fitting
+pub mod Hearing

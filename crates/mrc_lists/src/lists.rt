@@ -132,7 +132,7 @@ fn no_beginning(
         ∷ rows.at_rest (version_to_come changes.now.files.items grant.now.file)
         ∷ rows.all_known (nodes_in known.now) next.now ∷ []) }
 {
-    if grant.location.kind == Kind::Striped {
+    if let Kind::Striped = grant.location.kind {
         return Some(MetaRefusal::NotReplicated);
     }
     if let Some(version) = version_to_come(changes, &grant.file) {
