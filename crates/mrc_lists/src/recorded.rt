@@ -10,7 +10,7 @@ ghost use Rattle.volume_rows.specs.Rows.{Volumes};
 ghost use Rattle.change_rows.specs.Coordinating as table;
 ghost use Rattle.list_changes.specs.Lists.{beginning_answer};
 ghost use Rattle.list_changes.specs.Recorded.{after_record_with, nothing_recorded};
-ghost use Rattle.list_changes.specs.Requests.{running_after};
+ghost use Rattle.list_changes.specs.Requests.{ended_by, running_after};
 ghost use Rattle.mrc_core.specs.Asking.{IsSite};
 ghost use Rattle.mrc_core.specs.Noting.{subject_of};
 ghost use Rattle.mrc_core.specs.Picking.{WantsSome};
@@ -29,7 +29,7 @@ use std::alloc::Global;
 use std::marker::Model;
 use volume_rows::Asker;
 use xt_base::{Copies, FileId, Members, NodeId, OutOfMemory, Times};
-use xt_messages::{FileHead, Location, Logged, MetaAnswer, MetaRefusal, MetaReq, Msgs, Record};
+use xt_messages::{FileHead, Logged, MetaAnswer, MetaRefusal, MetaReq, Msgs, Record};
 use xt_protocol::Turned;
 
 /// The catalogue, whose rows have each file where it was made, and the files with a change.
@@ -57,7 +57,16 @@ pub fn settled_of(begun: &Result<Beginning, MetaRefusal>) -> Settled
     }
 }
 
-/// The change of a file that was unlinked ends.
+/// The change of a file ends, if there is such a file.
+fn end_any(changes: &mut Changes, file: &Option<FileId>)
+    ensures { changes.new.files.items ≡ ended_by changes.old.files.items file.now }
+{
+    if let Some(file) = file {
+        changes.end(file);
+    }
+}
+
+/// The change of a file that a request has unlinked ends.
 fn end_unlinked(
     changes: &mut Changes,
     request: &MetaReq,
@@ -71,11 +80,13 @@ fn end_unlinked(
         running_after times volumes changes.old.files.items who nodes request.now
         (answer_of settled.now) }
 {
-    if let MetaReq::Unlink { .. } = request
-        && let Some(file) = subject
-        && settled.is_done()
-    {
-        changes.end(file);
+    match request {
+        MetaReq::Unlink { .. } => {
+            if settled.is_done() {
+                end_any(changes, subject);
+            }
+        }
+        _ => {}
     }
 }
 
