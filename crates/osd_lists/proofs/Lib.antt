@@ -1,3 +1,4 @@
 pub mod Leaving
 pub mod Taking
 pub mod Versions
+pub mod Standing

@@ -1,9 +1,11 @@
 //! Asks, by the version of the list that they are for.
-ghost use Rattle.std.specs.Prelude.{◌≡◌, ◌<◌, ◌^◌, ℕ, List, Bool, IfOk, OnErr, is_none};
+ghost use Rattle.std.specs.Prelude.{◌≡◌, ◌<◌, ◌^◌, ℕ, List, Bool, IfOk, OnErr, is_some};
 ghost use Rattle.xt_messages.specs.Limits.{FitsCapability, FitsOp, FitsOpId};
 ghost use Rattle.xt_messages.specs.declared.file.Capability.{Capability};
 ghost use Rattle.xt_messages.specs.declared.file.Kind.TheVariants as kind;
 ghost use Rattle.xt_messages.specs.declared.record.Record.{Record};
+ghost use Rattle.xt_protocol.specs.AskRows as asks;
+ghost use Rattle.xt_protocol.specs.FileStates.{Site};
 ghost use Rattle.xt_protocol.specs.SeenBodies.{body_by};
 ghost use Rattle.flease.specs.Moves.{IsSettled};
 ghost use Rattle.object_versions.specs.KeptBodies.{fault_of, ReadsOnly};
@@ -105,6 +107,14 @@ fn ask_by_version<B: Bodies>(
     }
 }
 
+/// Whether a capability is refused, where `sealed` says whether its tag is the key's.
+fn is_refused(capability: &Capability, op: &Op, now: u64, sealed: bool) -> bool
+    ensures { (site : Site) → site.now ≡ now → site.sealed capability.now ≡ sealed →
+        result ≡ is_some (asks.capability_refused site capability.now op.now) }
+{
+    capability_refused(capability, op, now, sealed).is_some()
+}
+
 /// An ask on a replicated file: one whose capability is refused goes on to be told so, whatever its list is. After an error a file whose
 /// list was stored is as it was.
 fn ask_replicated<B: Bodies>(
@@ -129,7 +139,7 @@ fn ask_replicated<B: Bodies>(
         shown file.new ≡ shown file.old) }
     ensures reads { ReadsOnly B.agrees B.fault_count bodies.old bodies.new (fault_of result) }
 {
-    if capability_refused(capability, op, now, sealed).is_some() {
+    if is_refused(capability, op, now, sealed) {
         handle_ask(file, bodies, now, sealed, id, capability, op)
     } else {
         ask_by_version(file, bodies, now, sealed, id, capability, op)
