@@ -1,5 +1,5 @@
 -- what a node does to its disk, one thing after the other
-use Rattle.std.proofs.Common.{ℕ, ◌≡◌, ◌≤◌, ◌<◌, ◌-◌, ◌^◌, true, arith, sym, ◌∙◌, ap, subst, inl, inr, ⊎_elim, Option, Some, None, List, [], ◌∷◌, length, Ok}
+use Rattle.std.proofs.Common.{ℕ, ◌≡◌, ◌≤◌, ◌<◌, ◌-◌, ◌^◌, true, arith, sym, ◌∙◌, ap, subst, inl, inr, ⊎_elim, Option, Some, List, [], ◌∷◌, length, Ok}
 use Rattle.std.specs.Prelude.{Bool, IsTrue}
 use Rattle.std.proofs.lemmas.Bool.{cases_lt}
 use Rattle.disk_model.specs.declared.disk.Disk.{Ghosts}
@@ -26,15 +26,14 @@ use Rattle.object_store.specs.Loading.{IsLoadOf}
 use Rattle.object_store.specs.Texts.{texts_of, AreRecords}
 use Rattle.object_store.proofs.Stored.{known_there}
 use Rattle.object_store.proofs.Stores.{known_are}
-use Rattle.world_spec.specs.World.{Deed}
-use Rattle.node_runs.specs.Keeping.{KeepsWith, KeptInTurn, from_start, then_next}
+use Rattle.node_runs.specs.BatchEnds.{Doing, nothing, KeepsDoing, LeavesDoing}
+use Rattle.node_runs.specs.Keeping.{KeepsOn, KeptInTurn, StandsForOne, from_start, then_next}
 use Rattle.node_runs.specs.Runs.{JournalAt, grown}
-use Rattle.node_runs.specs.Serving.{put_of}
-use Rattle.node_runs.proofs.Keeping.{keeps_now, stands_last, stays_closed}
+use Rattle.node_runs.proofs.Keeping.{keeps_now, stays}
 use Rattle.node_loop.specs.Events.{HasDiskCause}
 use Rattle.node_loop.specs.Stores.{journal_at}
 use Rattle.node_jobs.specs.Boots.{boot_record, booted}
-use Rattle.node_jobs.specs.Disks.{Medium, StandsWith, HasBadRecord, EndsUnloaded, EndsUnbooted, IsLeftUnloaded, IsUnloaded, IsUnbooted, KeepsFrom, ComesFrom, ComesTo, IsLoaded, IsBooted, CannotBoot, StandAt}
+use Rattle.node_jobs.specs.Disks.{Medium, HasBadRecord, EndsUnloaded, EndsUnbooted, IsLeftUnloaded, IsUnloaded, IsUnbooted, KeepsFrom, ComesFrom, ComesTo, IsLoaded, IsBooted, CannotBoot, EndsWithin, StandAt}
 
 -- what contracts know of a disk, by the members of its trait
 abbrev pub medium_of : {D : Type 0} → Ghosts D → Medium D
@@ -115,12 +114,11 @@ module _ {D : Type 0} (m : Medium D) where
   -- ---- records were given, and others after them
 
   -- some lists of records in turn, those that were given first
-  pub keeps_from : (before loaded until after : D) (records : List Record) (lists : List (List Record)) (settled : List Record) (met : Option Deed)
+  pub keeps_from : (before loaded until after : D) (records : List Record) (lists : List (List Record)) (settled : List Record) (doing : Doing)
       → ComesFrom m before loaded records → (IsTrue m.is_told → KeptInTurn m.moment m.left_since loaded records lists settled until)
-      → KeepsWith m.is_told m.moment m.left_since until after settled met
-      → (IsTrue m.is_told → (image : List ℕ) → IsImage (m.kept after) image → StandsWith settled met image)
-      → KeepsFrom m before after records lists settled met
-  keeps_from before loaded until after records lists settled met comes in_turn ending last = record {
+      → KeepsDoing m.is_told m.moment m.left_since until after settled doing → LeavesDoing m.is_told m.kept after settled doing
+      → KeepsFrom m before after records lists settled doing
+  keeps_from before loaded until after records lists settled doing comes in_turn ending last = record {
     stood = comes.stood;
     loaded = loaded;
     loads = comes.loads;
@@ -130,8 +128,7 @@ module _ {D : Type 0} (m : Medium D) where
     last = last;
   }
 
-  module _ {g : Ghosts D}
-      (counts_now : (disk : D) (t : ℕ) (image : List ℕ) → IsTrue m.is_told → t ≤ m.moment disk → IsImage (m.kept disk) image → m.left_since disk t image) where
+  module _ {g : Ghosts D} where
     pub unbooted_from : (before : D) (limit : ℕ) (store : Store D g) (after : D) (said : Status) → IsLoaded m before limit store
         → CannotBoot m store after said → IsUnbooted m limit before after said
     unbooted_from before limit store after said is cannot =
@@ -139,32 +136,44 @@ module _ {D : Type 0} (m : Medium D) where
         record {
           records = records;
           are = is.are;
-          met = cannot.met;
+          doing = cannot.doing;
           super = superblock_of (journal_in store);
           stood = is.stood;
-          why = subst (λ (n : ℕ). EndsUnbooted m.is_told (superblock_of (journal_in store)) records n cannot.met said) is.room cannot.why;
+          why = subst (λ (n : ℕ). EndsUnbooted m.is_told (superblock_of (journal_in store)) records n cannot.doing said) is.room cannot.why;
           cause = subst (λ (n : ℕ). HasDiskCause n (m.fault_count after) said) is.comes.faults cannot.cause;
-          keeps = keeps_from before (disk_of store) (disk_of store) after records (records ∷ []) records (put_of cannot.met) is.comes
-              (λ told. from_start (is.comes.kept told)) cannot.keeps
-              (λ told image now. stands_last m.is_told m.kept m.moment m.left_since (disk_of store) after records (put_of cannot.met)
-              (λ i t later is. counts_now after (m.moment (disk_of store)) i t later is) cannot.keeps told image now);
+          keeps = keeps_from before (disk_of store) (disk_of store) after records (records ∷ []) records cannot.doing is.comes
+              (λ told. from_start (is.comes.kept told)) cannot.keeps cannot.last;
         }
 
 module _ {D : Type 0} {g : Ghosts D}
     (only_now : (disk : D) (image : List ℕ) → IsTrue g.is_told → g.left_since disk (g.moment disk) image → IsImage (g.kept disk) image) where
+  -- A disk that holds what the store's disk holds stands for its records.
+  pub leaves_records : (store : Store D g) (disk : D) → g.kept disk ≡ g.kept (disk_of store)
+      → IsTrue g.is_told → (image : List ℕ) → IsImage (g.kept disk) image → StandsForOne (records_of store ∷ []) image
+  leaves_records store disk same told image is = inl (each_stands (g.kept (disk_of store)) (texts_of (records_of store)) image (store.keeps told)
+      (subst (λ (k : Kept). IsImage k image) same is))
+
+  -- The store is closed, and nothing was done to its records.
+  pub keeps_closed : (store : Store D g) (disk : D) → disk ≡ disk_of store
+      → KeepsDoing g.is_told g.moment g.left_since (disk_of store) disk (records_of store) nothing
+  keeps_closed store disk same =
+      let records = records_of store in
+      subst (λ d. KeepsOn g.is_told g.moment g.left_since (disk_of store) d (records ∷ records ∷ [])) (sym same)
+      (λ told. weaker g.moment g.left_since (disk_of store) (disk_of store) (StandsForOne (records ∷ [])) (StandsForOne (records ∷ records ∷ []))
+      (stays g.is_told g.kept g.moment g.left_since (disk_of store) records store.keeps (λ image told left. only_now (disk_of store) image told left) told)
+      (λ image. ⊎_elim (λ was. inl was) (λ none. absurd none)))
+
   -- the store of a node that kept its boot is closed
   pub closed_from : (before loaded after : D) (store : Store D g) (records : List Record)
       → ComesFrom (medium_of g) before loaded records → ComesTo (medium_of g) loaded (disk_of store) records (records_of store)
       → records_of store ≡ booted records → after ≡ disk_of store
-      → KeepsFrom (medium_of g) before after records (records ∷ booted records ∷ []) (booted records) None
+      → KeepsFrom (medium_of g) before after records (records ∷ booted records ∷ []) (booted records) nothing
   closed_from before loaded after store records comes to is same =
       let all = records_of store in
-      subst (λ (rs : List Record). KeepsFrom (medium_of g) before after records (records ∷ rs ∷ []) rs None) is
-      (keeps_from (medium_of g) before loaded (disk_of store) after records (records ∷ all ∷ []) all None comes
+      subst (λ (rs : List Record). KeepsFrom (medium_of g) before after records (records ∷ rs ∷ []) rs nothing) is
+      (keeps_from (medium_of g) before loaded (disk_of store) after records (records ∷ all ∷ []) all nothing comes
       (λ told. then_next (records ∷ []) records all loaded (disk_of store) (from_start (comes.kept told)) (to.each told) (to.kept told))
-      (stays_closed g.is_told g.kept g.moment g.left_since (disk_of store) after all None same store.keeps (λ image told left. only_now (disk_of store) image told left))
-      (λ told image now. inl (each_stands (g.kept (disk_of store)) (texts_of all) image (store.keeps told)
-      (subst (λ (d : D). IsImage (g.kept d) image) same now))))
+      (keeps_closed store after same) (leaves_records store after (ap g.kept same)))
 
   -- a store that was loaded from a disk
   pub loaded_is : (before : D) (limit : ℕ) (from : Journal D g) (placed : List Placed) (payloads : List (List ℕ)) (store : Store D g)
@@ -208,7 +217,7 @@ module _ {D : Type 0} {g : Ghosts D} where
         is = boots.journal ∙ (λ i. grown (record { superblock = super; end = place i; limit = sym (ap (λ (j : JournalAt). j.limit) boots.journal) i }) (Some rec));
       }
 
-  -- the limit of its journal
-  pub room_at : (before : D) (limit : ℕ) (old new : Store D g) (boot : Boot) → IsLoaded (medium_of g) before limit old → IsBooted (medium_of g) old new boot
-      → (journal_at new).limit ≡ limit
-  room_at before limit old new boot is boots = ap (λ (j : JournalAt). j.limit) boots.journal ∙ is.room
+  -- its journal is within the limit
+  pub within_at : (before : D) (limit : ℕ) (old new : Store D g) (boot : Boot) → IsLoaded (medium_of g) before limit old → IsBooted (medium_of g) old new boot
+      → EndsWithin limit (journal_at new)
+  within_at before limit old new boot is boots = subst (λ (n : ℕ). EndsWithin n (journal_at new)) is.room boots.within

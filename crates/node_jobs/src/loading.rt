@@ -4,8 +4,8 @@ ghost use Rattle.node_jobs.specs.Boots.{stored_boot};
 ghost use Rattle.node_jobs.specs.Disks.{medium, IsLoaded, IsUnloaded, IsBooted, CannotBoot};
 
 use disk_model::Disk;
-use node_loop::{Ended, keep};
-use object_store::{Store, StoreErr};
+use node_loop::Ended;
+use object_store::{AppendErr, Store, StoreErr};
 use std::alloc::Global;
 use xt_base::Boot;
 use xt_journal::{Journal, LoadErr};
@@ -107,8 +107,19 @@ pub fn booted<D: Disk>(alloc: Global, store: Store<D>) -> Result<(Store<D>, Boot
         });
     }
     let boot = Boot(last + 1);
-    match keep(alloc, store, &Record::Boot { boot }) {
+    match store.put(alloc, &Record::Boot { boot }) {
         Ok(store) => Ok((store, boot)),
-        Err(ended) => Err(ended),
+        Err(AppendErr::Broken { count, disk }) => Err(Ended {
+            status: Status::DiskFault { count },
+            disk,
+        }),
+        Err(AppendErr::Full { store, need, limit }) => Err(Ended {
+            status: Status::JournalFull { need, limit },
+            disk: store.close(),
+        }),
+        Err(AppendErr::OutOfMemory { store }) => Err(Ended {
+            status: Status::OutOfMemory,
+            disk: store.close(),
+        }),
     }
 }

@@ -8,6 +8,8 @@
 #[cfg(test)]
 mod appends;
 #[cfg(test)]
+mod batches;
+#[cfg(test)]
 mod bytes;
 #[cfg(test)]
 mod datagrams;
