@@ -1,7 +1,9 @@
 -- what an event leaves
-use Rattle.std.proofs.Common.{ℕ, ◌≡◌, sym, ◌∙◌, ap, subst, Bool, Option, Some, List, ◌++◌, length, take, inl, inr, ◌⊎◌}
+use Rattle.std.proofs.Common.{ℕ, ◌≡◌, ◌≢◌, refl, ◌∷◌, sym, ◌∙◌, ap, subst, Bool, Option, Some, None, List, ◌++◌, length, take, inl, inr, ◌⊎◌}
 use Rattle.std.proofs.Math.Seq.{take-length}
 use Rattle.std.specs.List.{All}
+use Rattle.std.specs.Option.{IfSome}
+use Rattle.std.proofs.lemmas.List.{append-nil, append_assoc}
 use Rattle.std.proofs.lemmas.List.Elements.{All-append, All-filter}
 use Rattle.std.specs.Prelude.{◌==◌, []}
 use Rattle.xt_base.specs.declared.ids.NodeId.{NodeId}
@@ -14,19 +16,22 @@ use Rattle.xt_messages.specs.declared.status.Status.{Status}
 use Rattle.xt_messages.specs.declared.status.Status.TheVariants as status
 use Rattle.replica_records.specs.Known.{Sees}
 use Rattle.client_rows.specs.Steps.{Step}
-use Rattle.world_spec.specs.NodeSteps.{to_itself}
+use Rattle.world_spec.specs.NodeSteps.{to_itself, one_more}
+use Rattle.node_runs.specs.BatchEnds.{listed}
 use Rattle.node_links.specs.declared.link.Datagram.{Datagram}
 use Rattle.node_runs.specs.Hearing.{Book}
 use Rattle.node_runs.specs.Posting.{Posted, posted, none_posted, HasPosted, HasSentFront}
 use Rattle.node_runs.specs.Runs.{JournalAt, Role, Served, needed_in}
-use Rattle.node_loop.specs.Events.{EndsEvent, EndsPut, HasStepped, IsFullFor, LeavesPut}
+use Rattle.node_loop.specs.Events.{EndsEvent, EndsStage, HasStepped}
+use Rattle.node_loop.specs.declared.event.Stop.{Stop}
+use Rattle.node_loop.specs.declared.event.Stop.TheVariants as stop
 use Rattle.node_loop.specs.Turns.{HasActed}
 
 pub own_fits : (node : NodeId) (old outs own : List Msg) → own ≡ old ++ to_itself node outs → All FitsMessage old → All FitsMessage outs → All FitsMessage own
 own_fits node old outs own e before new =
     subst (All FitsMessage) (sym e) (All-append FitsMessage old (to_itself node outs) before (All-filter (λ (m : Msg). m.to.0 == node.0) FitsMessage outs new))
 
--- all of them are a front
+-- all of them are a prefix
 pub whole_sent : {W N : Type 0} (node home : NodeId) (boot : Boot) (book kept : Book) (before count : ℕ) (msgs : List Msg) (handed : List Datagram → Type 0) → node ≡ home → book ≡ kept
     → HasPosted (posted node boot book (none_posted before) msgs) count handed → W → N ⊎ (HasSentFront home boot kept before msgs handed × W)
 whole_sent node home boot book kept before count msgs handed e same has with =
@@ -39,16 +44,47 @@ whole_sent node home boot book kept before count msgs handed e same has with =
       with,
     )
 
--- what a put leaves is what its event leaves; nothing of the event is sent
-pub ends_put : {S : Type 0} (step : Step S) (node : NodeId) (boot : Boot) (book : Book) (before : ℕ) (journal : JournalAt)
-    (handed : List Datagram → Type 0) (leaves : Option Record → Type 0) (rec : Record) (said : Status) → step.turned.rec ≡ Some rec → handed []
-    → EndsPut said → IsFullFor journal.limit (needed_in journal rec) said → LeavesPut leaves rec said
-    → EndsEvent step node boot book before journal handed leaves said
-ends_put step node boot book before journal handed leaves rec (status.DiskFault count) is none ends full left = (none, inl (subst leaves (sym is) left))
-ends_put step node boot book before journal handed leaves rec (status.JournalFull need limit) is none ends full left = (none, left, (rec, is, full))
-ends_put step node boot book before journal handed leaves rec status.OutOfMemory is none ends full left =
-    inr ((0, none), subst leaves (sym is) left)
-ends_put step node boot book before journal handed leaves rec _ is none ends full left = absurd ends
+-- why a record isn't staged is why its event ends the node; nothing of the event waits
+pub ends_stage : {S : Type 0} (step : Step S) (node : NodeId) (boot : Boot) (book : Book) (before : ℕ) (journal : JournalAt)
+    (mailed : List Datagram → Type 0) (staged : Option Record → Type 0) (rec : Record) (why : Stop) → step.turned.rec ≡ Some rec → mailed [] → staged None
+    → EndsStage journal.limit (needed_in journal rec) why
+    → EndsEvent step node boot book before journal mailed staged why
+ends_stage step node boot book before journal mailed staged rec (stop.With (status.JournalFull need limit)) is none without full = (none, without, (rec, is, full))
+ends_stage step node boot book before journal mailed staged rec (stop.With status.OutOfMemory) is none without full = inl (none, without)
+ends_stage step node boot book before journal mailed staged rec _ is none without full = absurd full
+
+-- where it isn't staged, the event has a record
+pub ends_staging : {S : Type 0} (step : Step S) (node : NodeId) (boot : Boot) (book : Book) (before : ℕ) (journal : JournalAt)
+    (mailed : List Datagram → Type 0) (staged : Option Record → Type 0) (rec : Option Record) (why : Stop) → step.turned.rec ≡ rec → rec ≢ None → mailed [] → staged None
+    → IfSome rec (λ rec. EndsStage journal.limit (needed_in journal rec) why)
+    → EndsEvent step node boot book before journal mailed staged why
+ends_staging step node boot book before journal mailed staged None why is some none without full = absurd (some refl)
+ends_staging step node boot book before journal mailed staged (Some rec) why is some none without full =
+    ends_stage step node boot book before journal mailed staged rec why is none without full
+
+-- no step was made
+pub ends_unmade : {S : Type 0} (step : Step S) (node : NodeId) (boot : Boot) (book : Book) (before : ℕ) (journal : JournalAt)
+    (mailed : List Datagram → Type 0) (staged : Option Record → Type 0) (why : Stop) → (why ≡ stop.Unread) ⊎ (why ≡ stop.With status.OutOfMemory) → mailed [] → staged None
+    → EndsEvent step node boot book before journal mailed staged why
+ends_unmade step node boot book before journal mailed staged why (inl is) none without =
+    subst (λ w. EndsEvent step node boot book before journal mailed staged w) (sym is) (none, without)
+ends_unmade step node boot book before journal mailed staged why (inr is) none without =
+    subst (λ w. EndsEvent step node boot book before journal mailed staged w) (sym is) (inl (none, without))
+
+-- the records with those that wait, where one more does
+pub kept_grows : (records puts wait : List Record) (rec : Option Record) → wait ≡ puts ++ listed rec → records ++ wait ≡ one_more (records ++ puts) rec
+kept_grows records puts wait None is = ap (λ (rs : List Record). records ++ rs) (is ∙ append-nil puts)
+kept_grows records puts wait (Some rec) is = ap (λ (rs : List Record). records ++ rs) is ∙ sym (append_assoc records puts (rec ∷ []))
+
+-- a prefix went, of the same messages
+pub front_as : (node home : NodeId) (boot : Boot) (book kept : Book) (before : ℕ) (msgs outs : List Msg) (mailed went : List Datagram → Type 0) → node ≡ home → book ≡ kept → msgs ≡ outs
+    → ((ds : List Datagram) → mailed ds → went ds) → HasSentFront node boot book before msgs mailed → HasSentFront home boot kept before outs went
+front_as node home boot book kept before msgs outs mailed went e same are as_told is = (
+  is.0,
+  subst (λ n. went (posted n boot kept (none_posted before) (take is.0 outs)).datagrams) e
+      (subst (λ b. went (posted node boot b (none_posted before) (take is.0 outs)).datagrams) same
+      (subst (λ ms. went (posted node boot book (none_posted before) (take is.0 ms)).datagrams) are (as_told (posted node boot book (none_posted before) (take is.0 msgs)).datagrams is.1))),
+)
 
 -- the node after an event, whose messages to itself were queued
 pub has_acted : {S : Type 0} (told : Bool) (role : Role S) (boot : Boot) (old : Served S) (happens : Event) (seen : List Record) (node : NodeId) (book : Book)
@@ -68,5 +104,5 @@ has_acted told role boot old happens seen node book state kept journal own count
       seen = seen;
       sees = sees;
       is = λ i. record old { state = is.state_is i; kept = is.kept_is i; own = owns i; count = counts i; journal = is.journal_is i };
-      sends = subst handed (ap (λ (p : Posted). p.datagrams) posts) is.sent.went;
+      mails_are = subst handed (ap (λ (p : Posted). p.datagrams) posts) is.sent.went;
     }
