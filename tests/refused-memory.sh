@@ -99,6 +99,9 @@ PROGRAM, TOP, ROOM, MOST, WORKERS = sys.argv[1], sys.argv[2], sys.argv[3], int(s
 # A run takes milliseconds, and a node's a second; one that takes so many seconds hangs.
 PATIENCE = 60
 MEMORY = b"! memory\n"
+# the byte of an open gate in a journal, and the kinds of two records
+OPEN_GATE = 0xA5
+BOOT, PROMISE = 1, 2
 wrong = 0
 lock = threading.Lock()
 
@@ -178,8 +181,28 @@ def told(name, count, refused, ends):
     print(f"{name}: {count} allocations, {len(refused)} refused ({ways})", flush=True)
 
 
+def payloads(path):
+    """The payloads of the records that a journal has, in order: one without areas."""
+    if not os.path.exists(path):
+        return []
+    with open(path, "rb") as file:
+        journal = file.read()
+    found, place = [], 12
+    while place + 5 < len(journal) and journal[place] == OPEN_GATE:
+        size = int.from_bytes(journal[place + 1:place + 5], "big")
+        found.append(journal[place + 5:place + 5 + size])
+        place += 5 + size
+    return found
+
+
+def last_boot(path):
+    """The last boot that a journal has, or 0."""
+    boots = [int.from_bytes(payload[1:9], "big") for payload in payloads(path) if payload[0] == BOOT]
+    return boots[-1] if boots else 0
+
+
 def node(name, words, store, allowed):
-    """A node over a store, of which each allocation is refused in turn, and which starts over what that left."""
+    """A node over a store, of which each allocation is refused in turn, and which starts over what that left: one boot more or none."""
 
     def fresh(number):
         folder = os.path.join(ROOM, f"{name}-{number}")
@@ -191,7 +214,9 @@ def node(name, words, store, allowed):
     def judge(number):
         folder = fresh(number)
         came = run(words, b"", number, None, folder)
+        boot = last_boot(os.path.join(folder, "s"))
         again = run(words, b"", 0, None, folder)
+        next_boot = last_boot(os.path.join(folder, "s"))
         shutil.rmtree(folder)
         if came is None or again is None:
             return tell(name, number, "it hangs")
@@ -199,8 +224,11 @@ def node(name, words, store, allowed):
             return tell(name, number, f"status {came[0]}, {came[1]!r}")
         if again[0] != whole[0]:
             return tell(name, number, f"after status {came[0]} it starts again with {again[0]}, {again[1]!r}")
+        if boot not in (first, first + 1) or next_boot != boot + 1:
+            return tell(name, number, f"after status {came[0]} its boot is {boot}, and then {next_boot}; it was {first}")
         return str(came[0])
 
+    first = last_boot(store) if store else 0
     folder = fresh(0)
     whole, count = counted(words, b"", folder)
     refused = numbers(count)
@@ -219,7 +247,7 @@ def read(path):
 
 # the bytes of a part before its payload, and those of a frame before the fields of its kind
 PART, FRAME = 27, 14
-STATUS, PROMISE = 7, 2
+STATUS = 7
 FILES = [1, 2, 3]
 
 
@@ -243,18 +271,7 @@ def answered(datagrams):
 
 def promised(path):
     """The numbers of the files of the promises that a journal has, in order."""
-    if not os.path.exists(path):
-        return []
-    with open(path, "rb") as file:
-        journal = file.read()
-    files, place = [], 12
-    while place + 5 < len(journal) and journal[place] == 0xA5:
-        size = int.from_bytes(journal[place + 1:place + 5], "big")
-        payload = journal[place + 5:place + 5 + size]
-        if payload[0] == PROMISE:
-            files.append(int.from_bytes(payload[17:25], "big"))
-        place += 5 + size
-    return files
+    return [int.from_bytes(payload[17:25], "big") for payload in payloads(path) if payload[0] == PROMISE]
 
 
 def asked(words, refused, folder, count=None):

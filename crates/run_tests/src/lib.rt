@@ -25,6 +25,8 @@ mod runs;
 mod schedules;
 #[cfg(test)]
 mod serving;
+#[cfg(test)]
+mod starts;
 
 /// The message where a test stops that can't go on.
 #[cfg(test)]
