@@ -308,7 +308,7 @@ static CASES: [Case; 3] = [
 ];
 
 /// A byte that is no message, and then these datagrams.
-fn given(rt: &impl Abort, alloc: Global, parts: &[&'static str]) -> Datagrams {
+pub fn given(rt: &impl Abort, alloc: Global, parts: &[&'static str]) -> Datagrams {
     let mut given = Seq::new(alloc);
     push(
         rt,

@@ -27,6 +27,8 @@ mod schedules;
 mod serving;
 #[cfg(test)]
 mod starts;
+#[cfg(test)]
+mod torn;
 
 /// The message where a test stops that can't go on.
 #[cfg(test)]
