@@ -30,10 +30,10 @@ use Rattle.node_loop.specs.Turns.{HasBegun, CannotBegin, HasActed}
 pub sends_same : (before after : Option (List Datagram)) (losses later : ℕ) → after ≡ before → later ≡ losses → Sends before after losses later []
 sends_same before after losses later e f = subst (λ o. Sends before o losses later []) (sym e) (subst (λ n. Sends before before losses n []) (sym f) (sends_none before losses))
 
-gives_same : (before after : Option (List Datagram)) → after ≡ before → Takes before after []
+pub gives_same : (before after : Option (List Datagram)) → after ≡ before → Takes before after []
 gives_same before after e = subst (λ o. Takes before o []) (sym e) (takes_none before)
 
-reads_same : (before after : Option (List ℕ)) → after ≡ before → Reads before after []
+pub reads_same : (before after : Option (List ℕ)) → after ≡ before → Reads before after []
 reads_same before after e = subst (λ o. Reads before o []) (sym e) (reads_none before)
 
 -- before the event of a turn is handled, all that was kept before it is kept
