@@ -36,6 +36,12 @@ module _ {N S D : Type 0} {g : Ghosts D} (state : N → S) (site : Site N) (stor
     room = has_room g.is_told (recs_of batch.records) (journal_then store batch) (journal_at store).end refl can.room;
   }
 
+  -- the same records wait
+  pub now_with : (other : Batch) → recs_of other.records ≡ recs_of batch.records → (held_of state site store other).now ≡ (held_of state site store batch).now
+  now_with other same =
+      λ i. standing (state site.node) (records_with store (same i)) (record (journal_at store) { end = end_with store (same i) }) site.own site.ears site.clock site.due site.sender.count
+          site.woken
+
   -- ---- where no record waits
 
   pub kept_alone : recs_of batch.records ≡ [] → kept_of store batch ≡ records_of store

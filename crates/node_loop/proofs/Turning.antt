@@ -22,7 +22,7 @@ use Rattle.node_runs.specs.BatchEnds as served
 use Rattle.node_runs.proofs.Sending.{sends_none, takes_none, reads_none}
 use Rattle.node_loop.specs.declared.event.Stop.{Stop}
 use Rattle.node_loop.specs.declared.event.Stop.TheVariants as stop
-use Rattle.node_loop.specs.Events.{EndsEvent}
+use Rattle.node_loop.specs.Events.{EndsEvent, Seeing}
 use Rattle.node_loop.specs.Batched.{Held, HasMailed, HasStaged}
 use Rattle.node_loop.specs.Passing.{HasPassed, HasStopped, WaitsAsBefore, status_of}
 use Rattle.node_loop.specs.Turns.{HasBegun, CannotBegin, HasActed}
@@ -30,10 +30,10 @@ use Rattle.node_loop.specs.Turns.{HasBegun, CannotBegin, HasActed}
 pub sends_same : (before after : Option (List Datagram)) (losses later : ℕ) → after ≡ before → later ≡ losses → Sends before after losses later []
 sends_same before after losses later e f = subst (λ o. Sends before o losses later []) (sym e) (subst (λ n. Sends before before losses n []) (sym f) (sends_none before losses))
 
-gives_same : (before after : Option (List Datagram)) → after ≡ before → Takes before after []
+pub gives_same : (before after : Option (List Datagram)) → after ≡ before → Takes before after []
 gives_same before after e = subst (λ o. Takes before o []) (sym e) (takes_none before)
 
-reads_same : (before after : Option (List ℕ)) → after ≡ before → Reads before after []
+pub reads_same : (before after : Option (List ℕ)) → after ≡ before → Reads before after []
 reads_same before after e = subst (λ o. Reads before o []) (sym e) (reads_none before)
 
 -- before the event of a turn is handled, all that was kept before it is kept
@@ -52,6 +52,52 @@ mailed_none puts waited wait sent_before sent_after losses_before losses_after (
 pub mails_nothing : (puts : List Record) (waited wait : List Datagram) (sent_before sent_after : Option (List Datagram)) (losses_before losses_after : ℕ) → wait ≡ waited
     → Sends sent_before sent_after losses_before losses_after [] → HasMailed puts waited wait sent_before sent_after losses_before losses_after []
 mails_nothing puts waited wait sent_before sent_after losses_before losses_after same quiet = inl (same ∙ sym (append-nil waited), quiet)
+
+-- ---- an event is of the node that met it
+
+-- an event of a node that met it so ends it
+abbrev pub EndsIn : {S : Type 0} → Bool → Role S → Boot → Served S → Event → (List Datagram → Type 0) → (Option Record → Type 0) → Stop → Type 0
+EndsIn told role boot met happens mailed staged why =
+    Seeing told met.kept (λ seen. EndsEvent (role.step seen met.state met.clock happens) role.node boot met.ears.book met.count met.journal mailed staged why)
+
+pub acted_as : {S : Type 0} (told : Bool) (role role' : Role S) (boot boot' : Boot) (met met' new : Served S) (happens : Event) (mailed : List Datagram → Type 0)
+    → role' ≡ role → boot' ≡ boot → met' ≡ met → HasActed told role' boot' met' happens new mailed → HasActed told role boot met happens new mailed
+acted_as told role role' boot boot' met met' new happens mailed r b m is =
+    subst (λ x. HasActed told role boot x happens new mailed) m (subst (λ x. HasActed told role x met' happens new mailed) b
+    (subst (λ x. HasActed told x boot' met' happens new mailed) r is))
+
+-- the same of what waited before it, and of what the link had been given
+pub mailed_from : (puts : List Record) (waited waited' wait : List Datagram) (sent sent' after : Option (List Datagram)) (losses losses' later : ℕ) (ds : List Datagram)
+    → waited' ≡ waited → sent' ≡ sent → losses' ≡ losses → HasMailed puts waited' wait sent' after losses' later ds → HasMailed puts waited wait sent after losses later ds
+mailed_from puts waited waited' wait sent sent' after losses losses' later ds w s l is =
+    subst (λ x. HasMailed puts x wait sent after losses later ds) w
+    (subst (λ x. HasMailed puts waited' wait x after losses later ds) s (subst (λ x. HasMailed puts waited' wait sent' after x later ds) l is))
+
+pub ends_as : {S : Type 0} (told : Bool) (role role' : Role S) (boot boot' : Boot) (met met' : Served S) (happens : Event) (why : Stop) (puts puts_before puts_before' : List Record)
+    (waited waited' wait : List Datagram) (sent sent' after : Option (List Datagram)) (losses losses' later : ℕ)
+    → role' ≡ role → boot' ≡ boot → met' ≡ met → puts_before' ≡ puts_before → waited' ≡ waited → sent' ≡ sent → losses' ≡ losses
+    → EndsIn told role' boot' met' happens (HasMailed puts waited' wait sent' after losses' later) (HasStaged told met'.journal puts_before' puts) why
+    → EndsIn told role boot met happens (HasMailed puts waited wait sent after losses later) (HasStaged told met.journal puts_before puts) why
+ends_as told role role' boot boot' met met' happens why puts puts_before puts_before' waited waited' wait sent sent' after losses losses' later r b m p w s l is =
+    subst (λ x. EndsIn told role boot met happens (HasMailed puts waited wait sent after x later) (HasStaged told met.journal puts_before puts) why) l
+    (subst (λ x. EndsIn told role boot met happens (HasMailed puts waited wait x after losses' later) (HasStaged told met.journal puts_before puts) why) s
+    (subst (λ x. EndsIn told role boot met happens (HasMailed puts x wait sent' after losses' later) (HasStaged told met.journal puts_before puts) why) w
+    (subst (λ x. EndsIn told role boot met happens (HasMailed puts waited' wait sent' after losses' later) (HasStaged told met.journal x puts) why) p
+    (subst (λ x. EndsIn told role boot x happens (HasMailed puts waited' wait sent' after losses' later) (HasStaged told x.journal puts_before' puts) why) m
+    (subst (λ x. EndsIn told role x met' happens (HasMailed puts waited' wait sent' after losses' later) (HasStaged told met'.journal puts_before' puts) why) b
+    (subst (λ x. EndsIn told x boot' met' happens (HasMailed puts waited' wait sent' after losses' later) (HasStaged told met'.journal puts_before' puts) why) r is))))))
+
+pub map_ok : {A B : Type 0} (P Q : A → Type 0) (r : Result A B) → ((x : A) → P x → Q x) → IfOk r P → IfOk r Q
+map_ok P Q (Ok x) f p = f x p
+map_ok P Q (Err e) f p = tt
+
+pub map_err : {A B : Type 0} (P Q : B → Type 0) (r : Result A B) → ((x : B) → P x → Q x) → IfErr r P → IfErr r Q
+map_err P Q (Ok x) f p = tt
+map_err P Q (Err e) f p = f e p
+
+pub begun_then : (left : ℕ) (before after then : Option (List Datagram)) (unread read : Option (List ℕ)) (turn : Turn) → then ≡ after
+    → HasBegun left before after unread read turn → HasBegun left before then unread read turn
+begun_then left before after then unread read turn e is = subst (λ o. HasBegun left before o unread read turn) (sym e) is
 
 module _ {S : Type 0} (told : Bool) (role : Role S) (boot : Boot) (period limit spent : ℕ) (old : Held S)
     (before after sent_before sent_after : Option (List Datagram)) (losses_before losses_after : ℕ) (unread read : Option (List ℕ)) where
@@ -155,6 +201,20 @@ module _ {S : Type 0} (told : Bool) (role : Role S) (boot : Boot) (period limit 
       spends = spends;
     }
 
+    -- the event of the turn was handled
+    pub has_turned_by : (happens : Event) (new : Held S) (role' : Role S) (boot' : Boot) (met' : Served S) (waited : List Datagram) (sent_then : Option (List Datagram)) (losses_then : ℕ)
+        → role' ≡ role → boot' ≡ boot → met' ≡ meets role boot period old.now turn → waited ≡ old.posts → sent_then ≡ sent_before → losses_then ≡ losses_before
+        → Some happens ≡ event_in role boot period old.now turn → ends_event role boot period (Some happens) ≡ false
+        → HasActed told role' boot' met' happens new.now (HasMailed new.puts waited new.posts sent_then sent_after losses_then losses_after)
+        → (now_spent : ℕ) → now_spent ≡ spent + 1
+        → HasPassed told role boot period old new spent now_spent before after sent_before sent_after losses_before losses_after unread read
+    has_turned_by happens new role' boot' met' waited sent_then losses_then r b m w s l is goes_on acted now_spent spends =
+        let met = meets role boot period old.now turn in
+        let ours = acted_as told role role' boot boot' met met' new.now happens (HasMailed new.puts waited new.posts sent_then sent_after losses_then losses_after) r b m acted in
+        has_turned (Some happens) new ours.seen ours.sees is goes_on ours.is
+        (mailed_from new.puts old.posts waited new.posts sent_before sent_then sent_after losses_before losses_then losses_after (mails role boot period met ours.seen happens) w s l ours.mails_are)
+        now_spent spends
+
   -- an event that ends the node
   module _ (puts : List Record) (posts : List Datagram) where
     as_it_was : (it : IsIn told role boot period before old.now) (why : Stop) → HasMailed puts old.posts posts sent_before sent_after losses_before losses_after []
@@ -222,23 +282,21 @@ module _ {S : Type 0} (told : Bool) (role : Role S) (boot : Boot) (period limit 
     has_failed it _ one stops received reads is = absurd is
 
     pub has_turn_failed : (turn : Turn) (left : ℕ) → left ≡ old.now.due - old.now.clock → MayTurn told role boot period limit spent old.now → HasBegun left before after unread read turn
-        → (happens : Event) (why : Stop) (seen : List Record) → Sees told (meets role boot period old.now turn).kept seen
-        → Some happens ≡ event_in role boot period old.now turn
-        → EndsEvent (step_at role boot period (meets role boot period old.now turn) seen happens) role.node boot (meets role boot period old.now turn).ears.book
-        (meets role boot period old.now turn).count (meets role boot period old.now turn).journal
+        → (happens : Event) (why : Stop) → Some happens ≡ event_in role boot period old.now turn
+        → EndsIn told role boot (meets role boot period old.now turn) happens
         (HasMailed puts old.posts posts sent_before sent_after losses_before losses_after) (HasStaged told (meets role boot period old.now turn).journal old.puts puts) why
         → HasStopped told role boot period limit spent old puts posts before after sent_before sent_after losses_before losses_after unread read why
-    has_turn_failed turn left e may begun happens why seen sees is failed =
+    has_turn_failed turn left e may begun happens why is failed =
         let begins : Begins before (old.now.due - old.now.clock) turn = subst (λ n. Begins before n turn) e begun.begins in
         let it : IsIn told role boot period before old.now = record {
           happens = happens;
           met = meets role boot period old.now turn;
           turn = turn ∷ [];
           is_met = in_turn turn happens may.0.0 may.0.1 begins (sym is);
-          seen = seen;
-          sees = sees;
+          seen = failed.0;
+          sees = failed.1;
         } in
-        has_failed it why (may, begins) (served.in_turn turn may begins) (subst (Takes before after) (sym (append-nil (datagrams_in (turn ∷ [])))) begun.received) begun.reads failed
+        has_failed it why (may, begins) (served.in_turn turn may begins) (subst (Takes before after) (sym (append-nil (datagrams_in (turn ∷ [])))) begun.received) begun.reads failed.2
 
     -- a message of the node to itself that ends it
     pub has_told_failed : (msg : Msg) (rest : List Msg) → old.now.own ≡ msg ∷ rest → after ≡ before → read ≡ unread → (why : Stop) (seen : List Record) → Sees told old.now.kept seen
@@ -288,43 +346,6 @@ module _ {S : Type 0} (told : Bool) (role : Role S) (boot : Boot) (period limit 
       ends = λ n. (quiet_now, all, refl, refl);
     });
   }
-
--- ---- an event is of the node that met it
-
-module _ {S : Type 0} (told : Bool) (role : Role S) (boot : Boot) (period : ℕ) (mailed : List Datagram → Type 0) where
-  pub acted_as : (role' : Role S) (boot' : Boot) (met met' new : Served S) (happens : Event) → role' ≡ role → boot' ≡ boot → met' ≡ met
-      → HasActed told role' boot' met' happens new mailed → HasActed told role boot met happens new mailed
-  acted_as role' boot' met met' new happens r b m is =
-      subst (λ x. HasActed told role boot x happens new mailed) m (subst (λ x. HasActed told role x met' happens new mailed) b
-      (subst (λ x. HasActed told x boot' met' happens new mailed) r is))
-
-  pub ends_as : (staged : Option Record → Type 0) (role' : Role S) (boot' : Boot) (met met' : Served S) (seen : List Record) (happens : Event) (why : Stop) → role' ≡ role → boot' ≡ boot → met' ≡ met
-      → EndsEvent (role'.step seen met'.state met'.clock happens) role'.node boot' met'.ears.book met'.count met'.journal mailed staged why
-      → EndsEvent (role.step seen met.state met.clock happens) role.node boot met.ears.book met.count met.journal mailed staged why
-  ends_as staged role' boot' met met' seen happens why r b m is =
-      subst (λ x. EndsEvent (role.step seen x.state x.clock happens) role.node boot x.ears.book x.count x.journal mailed staged why) m
-      (subst (λ x. EndsEvent (role.step seen met'.state met'.clock happens) role.node x met'.ears.book met'.count met'.journal mailed staged why) b
-      (subst (λ (x : Role S). EndsEvent (x.step seen met'.state met'.clock happens) x.node boot' met'.ears.book met'.count met'.journal mailed staged why) r is))
-
-pub map_ok : {A B : Type 0} (P Q : A → Type 0) (r : Result A B) → ((x : A) → P x → Q x) → IfOk r P → IfOk r Q
-map_ok P Q (Ok x) f p = f x p
-map_ok P Q (Err e) f p = tt
-
-pub map_err : {A B : Type 0} (P Q : B → Type 0) (r : Result A B) → ((x : B) → P x → Q x) → IfErr r P → IfErr r Q
-map_err P Q (Ok x) f p = tt
-map_err P Q (Err e) f p = f e p
-
-pub begun_then : (left : ℕ) (before after then : Option (List Datagram)) (unread read : Option (List ℕ)) (turn : Turn) → then ≡ after
-    → HasBegun left before after unread read turn → HasBegun left before then unread read turn
-begun_then left before after then unread read turn e is = subst (λ o. HasBegun left before o unread read turn) (sym e) is
-
-pub sends_from : (b b' after : Option (List Datagram)) (l l' later : ℕ) (ds : List Datagram) → b' ≡ b → l' ≡ l → Sends b' after l' later ds → Sends b after l later ds
-sends_from b b' after l l' later ds e f is = subst (λ o. Sends o after l later ds) e (subst (λ n. Sends b' after n later ds) f is)
-
-pub mailed_from : (puts : List Record) (waited wait : List Datagram) (b b' after : Option (List Datagram)) (l l' later : ℕ) (ds : List Datagram) → b' ≡ b → l' ≡ l
-    → HasMailed puts waited wait b' after l' later ds → HasMailed puts waited wait b after l later ds
-mailed_from puts waited wait b b' after l l' later ds e f is =
-    subst (λ o. HasMailed puts waited wait o after l later ds) e (subst (λ n. HasMailed puts waited wait b' after n later ds) f is)
 
 -- ---- a message of the node to itself
 

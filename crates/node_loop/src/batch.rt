@@ -214,7 +214,7 @@ fn commit<D: Disk>(
         return Ok(store);
     }
     let waited = mem::replace(records, Waiting::new(alloc));
-    match store.put_all(alloc, waited) {
+    match store.put_all(waited) {
         Ok(store) => Ok(store),
         Err(PutAllErr::Broken { count, disk }) => Err(Ended {
             status: Status::DiskFault { count },
