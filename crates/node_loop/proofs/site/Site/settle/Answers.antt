@@ -54,7 +54,7 @@ returns-in-Err g c =
       same_role = tt;
       runs = tt;
       settles = λ period. tt;
-      ends = λ period. inl (stays_closed D.is_told D.kept D.moment D.left_since (disk_of store) c.close.result (records_of store) None c.close.ensures store.keeps
+      ends = λ period. inl (stays_closed D.is_told D.kept D.moment D.left_since (disk_of store) c.close.result (records_of store) c.close.ensures store.keeps
           (λ image told left. g.met.D.Disk.only_now (disk_of store) image told left));
       keeps = tt;
       disk = tt;
