@@ -12,7 +12,6 @@ use Rattle.xt_messages.specs.declared.message.Msg.{Msg}
 use Rattle.xt_messages.specs.declared.event.Event.{Event}
 use Rattle.xt_messages.specs.Limits.{FitsMessage}
 use Rattle.xt_messages.specs.declared.record.Record.{Record}
-use Rattle.xt_messages.specs.declared.status.Status.{Status}
 use Rattle.xt_messages.specs.declared.status.Status.TheVariants as status
 use Rattle.xt_protocol.specs.declared.turned.Turned.{Turned}
 use Rattle.replica_records.specs.Known.{as_known, Sees}
@@ -23,7 +22,7 @@ use Rattle.node_links.specs.declared.link.Datagram.{Datagram}
 use Rattle.node_runs.specs.Hearing.{Book}
 use Rattle.node_runs.specs.Posting.{Posted, posted, none_posted, HasPosted, HasSentFront}
 use Rattle.node_runs.specs.Runs.{JournalAt, Role, Served, grown, needed_in}
-use Rattle.node_loop.specs.Batched.{HasMailed, HasStaged}
+use Rattle.node_loop.specs.Batched.{HasStaged}
 use Rattle.node_loop.specs.Events.{EndsEvent, EndsStage, HasStepped, Seeing}
 use Rattle.node_loop.specs.declared.event.Stop.{Stop}
 use Rattle.node_loop.specs.declared.event.Stop.TheVariants as stop

@@ -1,8 +1,8 @@
 -- the passes of a served node one after the other, in batches, and what its disk keeps
-use Rattle.std.proofs.Common.{ℕ, ◌≡◌, ◌≢◌, ◌≤◌, ◌+◌, refl, sym, ◌∙◌, ap, subst, Bool, false, Option, None, Some, List, [], ◌∷◌, ◌++◌, length, inl, inr, arith}
+use Rattle.std.proofs.Common.{ℕ, ◌≡◌, ◌≢◌, ◌+◌, refl, sym, ◌∙◌, ap, subst, Bool, false, Option, List, [], ◌∷◌, ◌++◌, length, inl, inr}
 use Rattle.std.proofs.lemmas.List.{length-append, append_assoc, append-nil}
 use Rattle.std.specs.Prelude.{IsTrue}
-use Rattle.disk_model.specs.Disk.{Kept, IsImage, LeavesOnly}
+use Rattle.disk_model.specs.Disk.{Kept, LeavesOnly}
 use Rattle.disk_model.proofs.Moments.{begun as leaves_begun}
 use Rattle.xt_base.specs.declared.ids.Boot.{Boot}
 use Rattle.xt_messages.specs.declared.record.Record.{Record}
@@ -11,11 +11,11 @@ use Rattle.xt_messages.specs.declared.status.Status.TheVariants as status
 use Rattle.node_links.specs.declared.link.Datagram.{Datagram}
 use Rattle.node_links.specs.Streams.{Takes}
 use Rattle.node_runs.specs.Links.{Sends, Reads}
-use Rattle.node_runs.specs.Runs.{Role, Served, Turn, woke, idle, came, Passes, Comes, begun, passed, Begins, datagrams_in, readings_in, reading_in}
+use Rattle.node_runs.specs.Runs.{Role, Served, Turn, woke, idle, came, Comes, begun, passed, datagrams_in, readings_in, reading_in}
 use Rattle.node_runs.specs.Serving.{IsIn, record_in, front_in}
-use Rattle.node_runs.specs.Keeping.{StandsForOne, KeepsOn, KeepsNow, KeptInTurn, from_start, then_next}
+use Rattle.node_runs.specs.Keeping.{StandsForOne, KeepsNow, KeptInTurn, from_start, then_next}
 use Rattle.node_runs.specs.Batches.{HasRoom, IsBatch, Goes, at_start, then_batch, then_rewritten, kept_at}
-use Rattle.node_runs.specs.BatchEnds.{Doing, putting, refused, has_put, Unfinished, FitsIn, puts_in, IsInBatch, Stops, IsNotPut, EndsBatches, IsServedInBatches, KeepsBatches}
+use Rattle.node_runs.specs.BatchEnds.{Doing, putting, refused, has_put, Unfinished, FitsIn, puts_in, Stops, IsNotPut, EndsBatches, IsServedInBatches, KeepsBatches}
 use Rattle.node_runs.proofs.Sending.{sends_none, sends_join, takes_none, takes_more, reads_none, reads_more}
 use Rattle.node_loop.specs.Batched.{Held, HasMailed}
 use Rattle.node_loop.specs.Passing.{HasPassed, Settles, stays, rewrites, EndsCommit, Changes, IsDoing, Advances, by_pass, by_commit, by_look, HasEnded, after_commit, not_put, after_put}

@@ -1,5 +1,5 @@
 -- the records that wait are put at once
-use Rattle.std.proofs.Common.{ℕ, ◌≡◌, ◌≢◌, ◌≤◌, ◌⊎◌, refl, sym, ◌∙◌, ap, subst, Bool, true, false, Option, None, Some, List, [], ◌∷◌, ◌++◌, length, inl, inr, map, arith}
+use Rattle.std.proofs.Common.{ℕ, ◌≡◌, ◌≢◌, ◌⊎◌, refl, sym, ◌∙◌, ap, subst, Bool, true, false, List, [], ◌∷◌, ◌++◌, length, inl, arith}
 use Rattle.std.specs.Prelude.{IsTrue, ◌==◌}
 use Rattle.std.proofs.lemmas.List.{map-append}
 use Rattle.std.proofs.lemmas.Bool.{eqb-true, eqb-false}
@@ -13,8 +13,8 @@ use Rattle.replica_records.specs.Known.{known_of}
 use Rattle.replica_records.specs.RecordText.{record_text}
 use Rattle.object_store.specs.Texts.{texts_of}
 use Rattle.object_store.proofs.Stored.{known_there}
-use Rattle.node_runs.specs.Keeping.{KeepsOn, StandsForOne}
-use Rattle.node_runs.specs.BatchEnds.{putting, refused}
+use Rattle.node_runs.specs.Keeping.{KeepsOn}
+use Rattle.node_runs.specs.BatchEnds.{refused}
 use Rattle.node_runs.proofs.Keeping.{changes_one}
 use Rattle.node_loop.specs.declared.event.Stop.TheVariants as stop
 use Rattle.node_loop.specs.Events.{HasDiskCause}

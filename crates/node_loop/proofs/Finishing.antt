@@ -1,8 +1,8 @@
 -- how a node ends, once what waits is put and sent, or that failed
-use Rattle.std.proofs.Common.{ℕ, ◌≡◌, ◌≢◌, ◌≤◌, ◌⊎◌, refl, sym, ◌∙◌, ap, subst, Bool, Option, None, Some, List, [], ◌∷◌, ◌++◌, length, inl, inr, arith}
+use Rattle.std.proofs.Common.{ℕ, ◌≡◌, ◌≢◌, ◌≤◌, ◌⊎◌, refl, sym, ◌∙◌, ap, subst, Bool, Option, List, [], ◌∷◌, ◌++◌, inl, inr, arith}
 use Rattle.std.proofs.lemmas.List.{append-nil}
 use Rattle.std.specs.Prelude.{IsTrue}
-use Rattle.disk_model.specs.Disk.{Kept, IsImage, LeavesOnly}
+use Rattle.disk_model.specs.Disk.{Kept, IsImage}
 use Rattle.xt_base.specs.declared.ids.Boot.{Boot}
 use Rattle.xt_messages.specs.declared.record.KeepBody.{KeepBody}
 use Rattle.xt_messages.specs.declared.record.Record.{Record}
@@ -13,9 +13,9 @@ use Rattle.node_links.specs.declared.link.Datagram.{Datagram}
 use Rattle.node_links.specs.Streams.{Takes}
 use Rattle.node_runs.specs.Links.{Sends, Reads}
 use Rattle.node_runs.specs.Runs.{Role, Served, Turn, datagrams_in, readings_in}
-use Rattle.node_runs.specs.Serving.{IsIn, record_in, front_in, HasServeCause}
+use Rattle.node_runs.specs.Serving.{front_in, HasServeCause}
 use Rattle.node_runs.specs.Keeping.{StandsForOne, KeepsOn, KeepsNow}
-use Rattle.node_runs.specs.BatchEnds.{Doing, nothing, putting, refused, has_put, rewriting, all_done, done_by, FitsIn, puts_in, Stops, between, in_event, EndsBatches, KeepsDoing, LeavesDoing, HasBatchCause, RoseOnce}
+use Rattle.node_runs.specs.BatchEnds.{Doing, nothing, putting, has_put, rewriting, all_done, puts_in, between, in_event, EndsBatches, KeepsDoing, LeavesDoing, HasBatchCause, RoseOnce}
 use Rattle.node_runs.proofs.Sending.{sends_none, sends_join, takes_none, reads_none}
 use Rattle.node_loop.proofs.Turning.{sends_same}
 use Rattle.node_loop.specs.declared.event.Stop.{Stop}

@@ -1,6 +1,6 @@
 -- a node as the loop holds it, with what waits
-use Rattle.std.proofs.Common.{ℕ, ◌≡◌, ◌≤◌, ◌<◌, ◌+◌, refl, sym, ◌∙◌, ap, subst, Bool, List, [], ◌∷◌, ◌++◌, length, arith}
-use Rattle.std.proofs.lemmas.List.{append-nil, append_assoc}
+use Rattle.std.proofs.Common.{ℕ, ◌≡◌, ◌≤◌, ◌+◌, refl, sym, ◌∙◌, ap, subst, Bool, List, [], ◌∷◌, length, arith}
+use Rattle.std.proofs.lemmas.List.{append-nil}
 use Rattle.disk_model.specs.declared.disk.Disk.{Ghosts}
 use Rattle.xt_messages.specs.declared.record.Record.{Record}
 use Rattle.replica_records.specs.Known.{known_of}
@@ -8,12 +8,11 @@ use Rattle.replica_records.specs.RecordText.{record_text}
 use Rattle.object_store.specs.declared.store.Store.{Store}
 use Rattle.object_store.specs.Access.{records_of}
 use Rattle.object_store.specs.Waits.{CanBePut, end_after, end_with, needed_after, recs_of, records_with}
-use Rattle.node_links.specs.declared.link.Datagram.{Datagram}
 use Rattle.node_runs.specs.Batches.{HasRoom}
-use Rattle.node_runs.specs.Runs.{JournalAt, Served}
+use Rattle.node_runs.specs.Runs.{JournalAt}
 use Rattle.node_loop.specs.declared.batch.Batch.{Batch}
 use Rattle.node_loop.specs.declared.site.Site.{Site}
-use Rattle.node_loop.specs.Batched.{Held, held_of, journal_then, kept_of, posts_of}
+use Rattle.node_loop.specs.Batched.{held_of, journal_then, kept_of, posts_of}
 use Rattle.node_loop.specs.Settling.{served_of}
 use Rattle.node_loop.specs.Stores.{journal_at}
 use Rattle.node_loop.specs.Turns.{standing}
@@ -40,7 +39,7 @@ module _ {N S D : Type 0} {g : Ghosts D} (state : N → S) (site : Site N) (stor
   pub now_with : (other : Batch) → recs_of other.records ≡ recs_of batch.records → (held_of state site store other).now ≡ (held_of state site store batch).now
   now_with other same =
       λ i. standing (state site.node) (records_with store (same i)) (record (journal_at store) { end = end_with store (same i) }) site.own site.ears site.clock site.due site.sender.count
-          site.woken
+      site.woken
 
   -- ---- where no record waits
 

@@ -1,5 +1,5 @@
 -- messages that wait, after others
-use Rattle.std.proofs.Common.{ℕ, ◌≡◌, ◌∙◌, sym, ap, List, ◌++◌}
+use Rattle.std.proofs.Common.{ℕ, ◌∙◌, sym, ap, List, ◌++◌}
 use Rattle.std.specs.Prelude.{Result, Ok, Err, OnErr}
 use Rattle.std.proofs.lemmas.List.{append_assoc}
 use Rattle.xt_base.specs.declared.ids.NodeId.{NodeId}

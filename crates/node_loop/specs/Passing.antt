@@ -11,11 +11,10 @@ use Rattle.xt_protocol.specs.Forgetting.{rewritten}
 use Rattle.node_links.specs.declared.link.Datagram.{Datagram}
 use Rattle.node_links.specs.Streams.{Takes}
 use Rattle.node_runs.specs.Links.{Sends, Reads}
-use Rattle.node_runs.specs.Runs.{Role, Served, JournalAt, Turn, Passes, Rewrites, rewrites_with, lacks, datagrams_in, readings_in}
+use Rattle.node_runs.specs.Runs.{Role, Served, Turn, Passes, Rewrites, rewrites_with, lacks, datagrams_in, readings_in}
 use Rattle.node_runs.specs.Serving.{IsIn, record_in, front_in}
 use Rattle.node_runs.specs.Keeping.{KeepsOn, KeepsNow}
-use Rattle.node_runs.specs.Batches.{HasRoom}
-use Rattle.node_runs.specs.BatchEnds.{Doing, putting, refused, has_put, Unfinished, all_done, done_by, FitsIn, puts_in, Stops, EndsBatches, KeepsDoing, LeavesDoing}
+use Rattle.node_runs.specs.BatchEnds.{Doing, putting, refused, has_put, Unfinished, all_done, FitsIn, puts_in, Stops, EndsBatches, KeepsDoing, LeavesDoing}
 use Rattle.node_loop.specs.declared.event.Stop.{Stop}
 use Rattle.node_loop.specs.declared.event.Stop.TheVariants as stop
 use Rattle.node_loop.specs.declared.turn.Next.{Next}

@@ -1,5 +1,5 @@
 -- a look at the records of a served node after a Wake
-use Rattle.std.specs.Prelude.{ℕ, ◌≡◌, Option, List, [], ◌∷◌, Result, IfOk, IfErr}
+use Rattle.std.specs.Prelude.{ℕ, ◌≡◌, List, [], ◌∷◌, Result, IfOk, IfErr}
 use Rattle.disk_model.specs.declared.disk.Disk.{Ghosts}
 use Rattle.xt_messages.specs.declared.record.Record.{Record}
 use Rattle.object_store.specs.declared.store.Store.{Store}

@@ -1,5 +1,5 @@
 -- a turn of a served node, an event in it, and a look at the records after a Wake
-use Rattle.std.specs.Prelude.{ℕ, Bool, ◌⊎◌, ◌≡◌, ◌≤◌, ◌<◌, ◌+◌, Option, Some, None, List, [], ◌∷◌, ◌++◌, length, take}
+use Rattle.std.specs.Prelude.{ℕ, Bool, ◌⊎◌, ◌≡◌, ◌≤◌, ◌<◌, Option, List, [], ◌∷◌, length, take}
 use Rattle.std.specs.Option.{IfSome}
 use Rattle.xt_base.specs.declared.ids.Boot.{Boot}
 use Rattle.xt_messages.specs.declared.message.Msg.{Msg}
@@ -11,9 +11,9 @@ use Rattle.xt_messages.specs.declared.status.Status.TheVariants as status
 use Rattle.replica_records.specs.Known.{Sees}
 use Rattle.node_links.specs.declared.link.Datagram.{Datagram}
 use Rattle.node_links.specs.Streams.{Takes}
-use Rattle.node_runs.specs.Links.{Sends, Reads}
+use Rattle.node_runs.specs.Links.{Reads}
 use Rattle.node_runs.specs.Hearing.{Ears}
-use Rattle.node_runs.specs.Runs.{Role, Served, JournalAt, Turn, woke, idle, came, Begins, Passes, Comes, Rewrites, handles, mails, datagrams_in, readings_in}
+use Rattle.node_runs.specs.Runs.{Role, Served, JournalAt, Turn, woke, idle, came, Begins, Rewrites, handles, mails, datagrams_in, readings_in}
 use Rattle.node_runs.specs.BatchEnds.{Doing, nothing, rewriting}
 use Rattle.node_loop.specs.declared.opening.Opening.{Opening}
 use Rattle.node_loop.specs.declared.opening.Opening.TheVariants as opening

@@ -1,21 +1,13 @@
 -- A node that has come so far by batches has come so far by passes, and its disk kept nothing else in turn than what the node kept.
-use Rattle.std.proofs.Common.{ℕ, ◌≡◌, Bool, refl, sym, ◌∙◌, ap, subst, arith, Option, Some, None, List, [], ◌∷◌, ◌++◌, length, suc}
+use Rattle.std.proofs.Common.{ℕ, ◌≡◌, Bool, refl, sym, subst, arith, Option, List, [], ◌++◌}
 use Rattle.std.specs.List.{All}
 use Rattle.std.proofs.lemmas.List.{append_assoc, append-nil}
 use Rattle.std.proofs.lemmas.List.Elements.{All-push}
 use Rattle.xt_base.specs.declared.ids.Boot.{Boot}
-use Rattle.xt_messages.specs.declared.event.Event.{Event}
-use Rattle.xt_messages.specs.declared.event.Event.TheVariants as event
-use Rattle.xt_messages.specs.declared.record.KeepBody.{KeepBody}
-use Rattle.xt_messages.specs.declared.record.Record.{Record}
 use Rattle.xt_protocol.specs.Forgetting.{rewritten}
-use Rattle.std.specs.Option.{option_map}
-use Rattle.replica_records.specs.Known.{as_known}
-use Rattle.world_spec.specs.NodeSteps.{one_more}
 use Rattle.node_links.specs.declared.link.Datagram.{Datagram}
-use Rattle.node_links.specs.Streams.{Takes}
-use Rattle.node_runs.specs.Runs.{Role, Turn, Served, Rewrites, rewrites_with, lacks, woke, idle, came, meets, event_in, step_at, goes_through, takes, Passes, by_rewriting, Comes, begun, passed, datagrams_in}
-use Rattle.node_runs.specs.Batches.{IsBatch, Goes, at_start, then_batch, then_rewritten, kept_at, WasKept}
+use Rattle.node_runs.specs.Runs.{Role, Turn, Served, by_rewriting, Comes, begun, passed}
+use Rattle.node_runs.specs.Batches.{Goes, at_start, then_batch, then_rewritten, kept_at, WasKept}
 use Rattle.node_runs.proofs.Sending.{takes_none}
 
 module _ {S : Type 0} (told : Bool) (role : Role S) (boot : Boot) (period : ℕ) (to_come : Option (List Datagram)) (start : Served S) where

@@ -6,7 +6,7 @@ use Rattle.node_runs.proofs.Keeping.{keeps_now}
 use Rattle.node_loop.specs.Batched.{held_of, posts_of, puts_of}
 use Rattle.node_loop.specs.Settling.{served_of}
 use Rattle.node_loop.proofs.Counting.{cause_since}
-use Rattle.node_loop.proofs.Coming.{comes_first, comes_on, is_served_on, HasCome}
+use Rattle.node_loop.proofs.Coming.{comes_first, comes_on, is_served_on}
 use Rattle.node_loop.proofs.Finishing.{cause_from, ended_then, finished_cause, gives_up}
 use Rattle.node_loop.proofs.Holding.{held_alone, is_held, kept_alone, none_can}
 use Rattle.node_loop.proofs.serving.serve.Goals as goal

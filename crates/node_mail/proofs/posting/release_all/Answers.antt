@@ -1,4 +1,4 @@
-use Rattle.std.proofs.Common.{rules, take, subst, sym, ◌∙◌, ◌++◌, List}
+use Rattle.std.proofs.Common.{rules, take, subst, sym, ◌∙◌, List}
 use Rattle.node_links.specs.declared.link.Datagram.{Datagram}
 use Rattle.node_runs.specs.Links.{Sends}
 use Rattle.node_runs.proofs.Sending.{sends_none, sends_join}

@@ -1,7 +1,6 @@
-use Rattle.std.proofs.Common.{refl, sym, ap, subst, ◌∙◌, ◌≡◌, ◌++◌, Option}
+use Rattle.std.proofs.Common.{refl, sym, ap, subst, ◌∙◌, ◌≡◌, ◌++◌}
 use Rattle.std.specs.List.{All}
 use Rattle.std.proofs.lemmas.List.{append-nil}
-use Rattle.xt_messages.specs.declared.record.Record.{Record}
 use Rattle.replica_records.specs.Known.{known_of}
 use Rattle.xt_messages.specs.Limits.{FitsMessage}
 use Rattle.object_store.specs.Access.{records_of}

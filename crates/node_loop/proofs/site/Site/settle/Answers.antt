@@ -1,4 +1,4 @@
-use Rattle.std.proofs.Common.{rules, refl, sym, ap, ◌∙◌, ◌≡◌, false, None, inl, inr}
+use Rattle.std.proofs.Common.{rules, refl, sym, ap, ◌∙◌, ◌≡◌, false, inl, inr}
 use Rattle.object_store.specs.Access.{records_of, disk_of}
 use Rattle.node_runs.specs.Runs.{is_due, area_at}
 use Rattle.node_runs.proofs.Keeping.{stays_so, stays_closed}
@@ -54,7 +54,7 @@ returns-in-Err g c =
       same_role = tt;
       runs = tt;
       settles = λ period. tt;
-      ends = λ period. inl (stays_closed D.is_told D.kept D.moment D.left_since (disk_of store) c.close.result (records_of store) None c.close.ensures store.keeps
+      ends = λ period. inl (stays_closed D.is_told D.kept D.moment D.left_since (disk_of store) c.close.result (records_of store) c.close.ensures store.keeps
           (λ image told left. g.met.D.Disk.only_now (disk_of store) image told left));
       keeps = tt;
       disk = tt;

@@ -9,6 +9,6 @@ pub returns-clause-packed : goal.returns-clause-packed
 returns-clause-packed c =
     let id : ℕ → MessageId = λ number. record { sender = c.args.self.now.node; boot = c.args.self.now.boot; number = number } in
     let number : c.in-Some.number ≡ c.args.self.now.count + 1 = search rules in
-    let frame : c.in_ok-encode-frame.frame ≡ frame_of c.args.msg.now = search rules in
-    ap (λ n. sent_to c.args.address.now (parts_of (id n) c.in_ok-encode-frame.frame)) number
+    let frame : c.in_ok-frame.frame ≡ frame_of c.args.msg.now = search rules in
+    ap (λ n. sent_to c.args.address.now (parts_of (id n) c.in_ok-frame.frame)) number
     ∙ ap (λ (bytes : List ℕ). sent_to c.args.address.now (parts_of (id (c.args.self.now.count + 1)) bytes)) frame
