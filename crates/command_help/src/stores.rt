@@ -1,4 +1,4 @@
-//! Whose a store is: a small file beside it says so. And which store is checked.
+//! The owner of a store, which a small file beside it names; and the store that is checked.
 
 use crate::texts_of;
 use clap::ArgMatches;
@@ -34,7 +34,7 @@ fn line_of(
     }
 }
 
-/// What the command needs to say of its store.
+/// The owner of the store that the command uses.
 fn owner_in(
     alloc: Global,
     name: &str,
@@ -67,7 +67,7 @@ fn checked_in(
 /// What these words do to a store.
 #[derive(Drop)]
 pub enum StoreUse {
-    /// They start a node: this stands beside its store.
+    /// They start a node, whose store has this file beside it.
     Owned(StoreOwner),
     /// They check the store at this path.
     Checked(String),
