@@ -103,10 +103,10 @@ pub fn hint(status: &Status) -> Option<&'static str> {
         }
         Status::Layout { .. } => Some("a later version of the program has written this store"),
         Status::JournalFull { .. } => Some(
-            "the store has reached --limit: what it holds is intact, and what didn't fit wasn't acknowledged (docs/operations.md, 'When a store fills up')",
+            "the store has reached --limit: what it holds is intact ('When a store fills up' in docs/operations.md)",
         ),
         Status::Damaged { .. } => Some(
-            "the store is damaged: treat it as lost (docs/operations.md, 'Replace a disk')",
+            "the store is damaged: treat it as lost ('Replace a disk' in docs/operations.md)",
         ),
         _ => None,
     }
