@@ -4,20 +4,20 @@ use crate::moment::log;
 use std::alloc::Global;
 use std::io::{self, Write};
 
-/// How a node's line begins that is ready.
+/// The beginning of the line of a node that is ready.
 const READY: &[u8] = b"ready ";
 
 /// How many bytes of a line are kept: enough for the line of a node that is ready.
 const KEPT: usize = 32;
 
-/// A writer of which each line is heard, and told on standard error if a node says in it that it is ready.
+/// A writer whose lines are heard: when a node says in one that it is ready, standard error is told.
 #[derive(Drop)]
 pub struct Hearing<'a, W: Write + Drop> {
     rt: &'a HostRuntime,
     writer: W,
-    /// What a node that is ready serves with; none if this is no node's output.
-    node: Option<&'a str>,
-    /// What was heard of the line that isn't at its end.
+    /// What is told of a node that is ready; none if this is no node's output.
+    ready: Option<&'a str>,
+    /// The first bytes of the line that isn't at its end yet.
     line: Vec<u8>,
 }
 
@@ -26,47 +26,47 @@ impl<'a, W: Write + Drop> Hearing<'a, W> {
     pub fn new(
         rt: &'a HostRuntime,
         alloc: Global,
-        node: Option<&'a str>,
+        ready: Option<&'a str>,
         writer: W,
     ) -> Hearing<'a, W> {
         Hearing {
             rt,
             writer,
-            node,
+            ready,
             line: Vec::new(alloc),
         }
     }
+}
 
-    /// Hears a line's end.
-    fn hear_end(&mut self, node: &str) {
-        if self.line.as_slice().starts_with(READY) {
-            // What can't be written to standard error is lost.
-            let _written = log(self.rt, node);
-        }
-        self.line.clear();
-    }
-
-    /// Hears these bytes.
-    fn hear(&mut self, bytes: &[u8]) {
-        let Some(node) = self.node else {
-            return;
-        };
-        for byte in bytes {
-            if *byte == b'\n' {
-                self.hear_end(node);
-            } else if self.line.len() < KEPT {
-                // Without memory the line isn't told.
-                let _kept = self.line.push(*byte);
+/// Hears bytes of a line, or of several.
+fn hear(rt: &HostRuntime, ready: &str, line: &mut Vec<u8>, bytes: &[u8]) {
+    for byte in bytes {
+        if *byte == b'\n' {
+            if line.as_slice().starts_with(READY) {
+                // What can't be written to standard error is lost.
+                let _written = log(rt, ready);
             }
+            line.clear();
+        } else if line.len() < KEPT {
+            // Without memory the line isn't told.
+            let _kept = line.push(*byte);
         }
     }
 }
 
 impl<W: Write + Drop> Write for Hearing<'_, W> {
+    ghost contents = { λ h. W.contents h.writer };
+
     fn write(&mut self, buf: &[u8]) -> io::Result<usize> {
-        let count = self.writer.write(buf)?;
-        self.hear(&buf[..count]);
-        Ok(count)
+        match self.writer.write(buf) {
+            Ok(count) => {
+                if let Some(ready) = self.ready {
+                    hear(self.rt, ready, &mut self.line, &buf[..count]);
+                }
+                Ok(count)
+            }
+            Err(error) => Err(error),
+        }
     }
 
     fn flush(&mut self) -> io::Result<()> {

@@ -61,18 +61,30 @@ impl<'a, T: Drop> Counted<'a, T> {
 }
 
 impl<T: Read + Drop> Read for Counted<'_, T> {
+    ghost remaining = { λ c. T.remaining c.inner };
+
     fn read(&mut self, buf: &mut [u8]) -> io::Result<usize> {
-        let count = self.inner.read(buf)?;
-        self.progress.add(count);
-        Ok(count)
+        match self.inner.read(buf) {
+            Ok(count) => {
+                self.progress.add(count);
+                Ok(count)
+            }
+            Err(error) => Err(error),
+        }
     }
 }
 
 impl<T: Write + Drop> Write for Counted<'_, T> {
+    ghost contents = { λ c. T.contents c.inner };
+
     fn write(&mut self, buf: &[u8]) -> io::Result<usize> {
-        let count = self.inner.write(buf)?;
-        self.progress.add(count);
-        Ok(count)
+        match self.inner.write(buf) {
+            Ok(count) => {
+                self.progress.add(count);
+                Ok(count)
+            }
+            Err(error) => Err(error),
+        }
     }
 
     fn flush(&mut self) -> io::Result<()> {
