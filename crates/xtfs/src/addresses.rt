@@ -28,10 +28,9 @@ pub fn writing_of(text: &str) -> Writing {
 /// Whether this can be the name of a machine.
 fn is_name(host: &str) -> bool {
     !host.is_empty()
-        && host
-            .as_bytes()
-            .iter()
-            .all(|byte| byte.is_ascii_alphanumeric() || *byte == b'-' || *byte == b'.')
+        && host.as_bytes().iter().all(|byte| byte.is_ascii_alphanumeric()
+            || *byte == b'-'
+            || *byte == b'.')
 }
 
 /// Tells which ports of this machine, from the first one on, another process has.

@@ -4,6 +4,7 @@ use xt_messages::{Answered, AskRefusal, Denial, MetaRefusal, Refusal, Retry, Sta
 
 /// The directory service, and the metadata server.
 const DIRECTORY: u32 = 900;
+
 const METADATA: u32 = 901;
 
 /// What helps where an OSD, or the metadata server at a report, denies an ask.

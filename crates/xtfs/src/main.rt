@@ -170,42 +170,6 @@ fn tell(
     }
 }
 
-/// Does what the words ask for, with the adapters of this machine. Of refused words nothing is done.
-fn do_words(
-    rt: &HostRuntime,
-    program: String,
-    words: &Words,
-    job: &Option<Job>,
-) -> Status {
-    let alloc = rt.alloc();
-    let progress = Progress::new(rt, is_shown(rt, job));
-    let Ok(mut source) = StdinSource::new(alloc, Counted::new(&progress, rt.reader())) else {
-        // Memory ran out before anything was done.
-        return Status::OutOfMemory;
-    };
-    let ready = ready_of(alloc, job);
-    let output = Counted::new(&progress, io::writer(rt));
-    let mut sink = StdoutSink::new(Hearing::new(rt, alloc, ready.as_deref(), output));
-    let calls = Told::new(rt);
-    let mut link = UdpLink::new(alloc, calls);
-    let mut clock = SystemClock::new(rt);
-    let disk = FileDisk::new(rt);
-    let mut spawner = ChildSpawner::new(alloc, calls, program);
-    let (status, _disk) = run(
-        rt,
-        alloc,
-        words,
-        &mut source,
-        &mut sink,
-        &mut link,
-        disk,
-        &mut clock,
-        &mut spawner,
-    );
-    progress.end();
-    status
-}
-
 fn main(rt: HostRuntime) -> ExitCode {
     let alloc = rt.alloc();
     keep_freed(alloc);
@@ -214,13 +178,39 @@ fn main(rt: HostRuntime) -> ExitCode {
         return ExitCode::from(Status::OutOfMemory.code());
     };
     let job = job_of(alloc, &words);
+    let progress = Progress::new(&rt, is_shown(&rt, &job));
+    let Ok(mut source) = StdinSource::new(alloc, Counted::new(&progress, rt.reader())) else {
+        return ExitCode::from(Status::OutOfMemory.code());
+    };
     let refused = is_refused(&rt, &job);
     if !refused && let Ok(Some(status)) = ended_early(&rt, &words) {
         return ExitCode::from(status);
     }
+    // Refused words ask for nothing.
     let none = Words::new(alloc);
-    let taken = if refused { &none } else { &words };
-    let status = do_words(&rt, program, taken, &job);
+    let asked = if refused { &none } else { &words };
+    let ready = ready_of(alloc, &job);
+    let output = Counted::new(&progress, io::writer(&rt));
+    let mut sink = StdoutSink::new(Hearing::new(&rt, alloc, ready.as_deref(), output));
+    let calls = Told::new(&rt);
+    let mut link = UdpLink::new(alloc, calls);
+    let mut clock = SystemClock::new(&rt);
+    let disk = FileDisk::new(&rt);
+    let mut spawner = ChildSpawner::new(alloc, calls, program);
+    let (status, disk) = run(
+        &rt,
+        alloc,
+        asked,
+        &mut source,
+        &mut sink,
+        &mut link,
+        disk,
+        &mut clock,
+        &mut spawner,
+    );
+    // With the disk its lock ends.
+    drop(disk);
+    progress.end();
     // The status is as it is, whether or not this can be written.
     let _written = tell(&rt, &words, refused, &job, &status);
     ExitCode::from(status.code())

@@ -1,9 +1,9 @@
 //! The store that words name: whose it is, whether it is there, and why it can't be used.
 
 use command_help::{StoreOwner, StoreUse, store_use};
+use std::fs;
 use std::fs::{File, OpenOptions, TryLockError};
 use std::io::{self, ErrorKind};
-use std::fs;
 use xt_base::Words;
 
 /// The status of a node that is started on another node's store: that of one on a file that is no store.
@@ -70,7 +70,9 @@ pub fn tell_store(rt: &HostRuntime, path: &str) -> io::Result<()> {
             Err(TryLockError::Error(error)) => {
                 eprintln!(rt; "xtfs: cannot lock the store {path}: {error}")
             }
-            Ok(()) => eprintln!(rt; "xtfs: the disk of the store {path} failed: look at the system's log"),
+            Ok(()) => eprintln!(rt;
+                "xtfs: the disk of the store {path} failed: look at the system's log"
+            ),
         },
     }
 }

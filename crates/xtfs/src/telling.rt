@@ -41,7 +41,14 @@ fn node_of(job: &Job) -> Option<Node<'_>> {
 
 /// What is told of a node that is ready; none for a job that starts no node.
 pub fn ready_text(alloc: Global, job: &Job) -> Result<Option<String>, OutOfMemory> {
-    let Some(Node { role, number, serving }) = node_of(job) else {
+    let Some(
+        Node {
+            role,
+            number,
+            serving,
+        },
+    ) = node_of(job)
+    else {
         return Ok(None);
     };
     let text = format!(in alloc;
