@@ -11,6 +11,7 @@ use xt_base::{Address, OutOfMemory};
 use xt_messages::Status;
 
 /// A node that a job starts.
+#[derive(Clone, Copy)]
 struct Node<'a> {
     role: &'static str,
     number: u32,
