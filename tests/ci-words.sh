@@ -183,7 +183,7 @@ def main():
             said = ended.stderr.decode()
             check(words, ended.returncode == 2 and ended.stdout == b"! usage\n" and all(word in said for word in told), ended)
 
-        # Without --dir the words are refused; the variable stands for it, and nobody answers there.
+        # Without --dir the words are refused; the variable sets it, and nobody answers there.
         ended = run(["stat", "/a", "--tries", "1", "--lease", "20", "--drift", "2"], folder, XTFS_DIR=f"127.0.0.1:{free_port()}")
         check("XTFS_DIR", ended.returncode == 20, ended)
         ended = run(["nodes", "--tries", "1", "--lease", "20", "--drift", "2"], folder, XTFS_DIR=f"127.0.0.1:{free_port()}")
