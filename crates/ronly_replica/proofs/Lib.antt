@@ -1,0 +1,9 @@
+pub mod Chains
+pub mod Frozen
+pub mod HeldRanges
+pub mod Left
+pub mod Holdings
+pub mod Loops
+pub mod Reading
+pub mod Loading
+pub mod Made
