@@ -1,0 +1,2 @@
+pub mod OnFile
+pub mod Fetched
