@@ -17,7 +17,7 @@ use Rattle.ronly_replica.specs.declared.errors.RonlyErr.{RonlyErr}
 use Rattle.ronly_replica.specs.declared.errors.RonlyErr.TheVariants as err
 use Rattle.ronly_replica.specs.Pins.{stage_of, held_in}
 use Rattle.ronly_replica.specs.Access.{pin_of, records_of, disk_of}
-use Rattle.ronly_replica.specs.Disks.{LeftSo, Leaves}
+use Rattle.ronly_replica.specs.Disks.{LeftSo, Leaves, limit_in}
 use Rattle.ronly_replica.specs.Holding.{Fetching, Holds, begun, was_held, fetched, LeavesHeld, LeavesTaken, IsWith, EndsAt, StopsAt, PutEnds, TakeEnds, HoldEnds}
 use Rattle.ronly_replica.proofs.Chains.{range_more, joined}
 use Rattle.ronly_replica.proofs.Left as disks
@@ -222,13 +222,14 @@ module _ {D : Type 0} {g : Ghosts D} {O : Type 0} (fetches : Fetching O) (pin : 
       }
 
 module _ {D : Type 0} {g : Ghosts D} {O : Type 0} (fetches : Fetching O) (old : Ronly D g) (start : O) (first end : ℕ) where
-  -- what a crash leaves while the objects from the first one on are held, and how often the disk has failed so far
+  -- what a crash leaves while the objects from the first one on are held; the disk has failed no more, and the journal's limit is the same
   pub record IsLeftAt (now : Ronly D g) : Type 0 where
     pub left : LeftSo g (disk_of old) (disk_of now) (LeavesHeld fetches g.is_told (pin_of old) (records_of old) start (range_with_len first (end - first)))
     pub sound : g.fault_count (disk_of now) ≡ g.fault_count (disk_of old)
+    pub limit : limit_in now ≡ limit_in old
 
   pub at_first : IsLeftAt old
-  at_first = record { left = λ told. inl refl; sound = refl }
+  at_first = record { left = λ told. inl refl; sound = refl; limit = refl }
 
   -- one object more
   pub left_more : (object : ℕ) (now : Ronly D g) (between : O) (result : Result (Ronly D g) (RonlyErr D g)) → first ≤ object → object < end → pin_of now ≡ pin_of old
@@ -241,7 +242,7 @@ module _ {D : Type 0} {g : Ghosts D} {O : Type 0} (fetches : Fetching O) (old : 
       let before = range_with_len first (object - first) in
       let behind = range_with_len (object + 1) (end - object - 1) in
       let all : List ℕ → Type 0 = LeavesHeld fetches g.is_told pin (records_of old) start whole in
-      disks.goes_on old now all result at.left at.sound
+      disks.goes_on old now all result at.left at.sound at.limit
       (disks.weaker now (LeavesHeld fetches g.is_told (pin_of now) (records_of now) between (object ∷ [])) all result later
       (λ told image is.
       let one = subst (λ p. LeavesHeld fetches g.is_told p (records_of now) between (object ∷ []) image) pinned is in
@@ -249,7 +250,7 @@ module _ {D : Type 0} {g : Ghosts D} {O : Type 0} (fetches : Fetching O) (old : 
       (held_later fetches g.is_told pin (records_of old) (records_of now) start between before (object ∷ []) behind image so_far one)))
 
   pub left_then : (next : Ronly D g) → Leaves old (LeavesHeld fetches g.is_told (pin_of old) (records_of old) start (range_with_len first (end - first))) (Ok next) → IsLeftAt next
-  left_then next later = record { left = later.any_moment; sound = later.faults }
+  left_then next later = record { left = later.any_moment; sound = later.faults; limit = later.limit }
 
   pub left_at_last : (now : Ronly D g) → IsLeftAt now → Leaves old (LeavesHeld fetches g.is_told (pin_of old) (records_of old) start (range_with_len first (end - first))) (Ok now)
-  left_at_last now at = record { any_moment = at.left; faults = at.sound }
+  left_at_last now at = record { any_moment = at.left; faults = at.sound; limit = at.limit }

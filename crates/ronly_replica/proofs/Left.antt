@@ -15,7 +15,7 @@ use Rattle.object_store.specs.Texts.{texts_of}
 use Rattle.ronly_replica.specs.declared.replica.Ronly.{Ronly}
 use Rattle.ronly_replica.specs.declared.errors.RonlyErr.{RonlyErr}
 use Rattle.ronly_replica.specs.Access.{disk_of, records_of, store_of}
-use Rattle.ronly_replica.specs.Disks.{LeftSo, Leaves, disk_left, has_failed}
+use Rattle.ronly_replica.specs.Disks.{LeftSo, Leaves, disk_left, has_failed, limit_in, KeepsLimit}
 
 pub texts-append : (records more : List Record) → texts_of (records ++ more) ≡ texts_of records ++ texts_of more
 texts-append records more = map-append record_text records more
@@ -39,23 +39,25 @@ module _ {D : Type 0} (g : Ghosts D) where
 
 module _ {D : Type 0} {g : Ghosts D} (old : Ronly D g) where
   -- nothing is done
-  pub untouched : (P : List ℕ → Type 0) (result : Result (Ronly D g) (RonlyErr D g)) → disk_left result ≡ disk_of old → has_failed result ≡ false → Leaves old P result
-  untouched P result same sound = record {
+  pub untouched : (P : List ℕ → Type 0) (result : Result (Ronly D g) (RonlyErr D g)) → disk_left result ≡ disk_of old → has_failed result ≡ false → KeepsLimit (limit_in old) result → Leaves old P result
+  untouched P result same sound limit = record {
     any_moment = λ told. inl same;
     faults = ap g.fault_count same ∙ sym (ap (λ b. fault_count_after b (g.fault_count (disk_of old))) sound);
+    limit = limit;
   }
 
   pub put_left : (rec : Record) (ends : Type 0) (result : Result (Ronly D g) (RonlyErr D g)) → PutsTo (store_of old) (rec ∷ []) ends (disk_left result) (has_failed result)
-      → Leaves old (IsWithAllOrNone (texts_of (records_of old)) (texts_of (rec ∷ []))) result
-  put_left rec ends result puts = record { any_moment = λ told. inr (puts.any_moment told); faults = puts.faults }
+      → KeepsLimit (limit_in old) result → Leaves old (IsWithAllOrNone (texts_of (records_of old)) (texts_of (rec ∷ []))) result
+  put_left rec ends result puts limit = record { any_moment = λ told. inr (puts.any_moment told); faults = puts.faults; limit = limit }
 
   pub weaker : (P R : List ℕ → Type 0) (result : Result (Ronly D g) (RonlyErr D g)) → Leaves old P result → (IsTrue g.is_told → (image : List ℕ) → P image → R image) → Leaves old R result
-  weaker P R result left p = record { any_moment = weaker_left g (disk_of old) (disk_left result) P R left.any_moment p; faults = left.faults }
+  weaker P R result left p = record { any_moment = weaker_left g (disk_of old) (disk_left result) P R left.any_moment p; faults = left.faults; limit = left.limit }
 
   -- a call after others that went well
   pub goes_on : (mid : Ronly D g) (P : List ℕ → Type 0) (result : Result (Ronly D g) (RonlyErr D g)) → LeftSo g (disk_of old) (disk_of mid) P
-      → g.fault_count (disk_of mid) ≡ g.fault_count (disk_of old) → Leaves mid P result → Leaves old P result
-  goes_on mid P result first same later = record {
+      → g.fault_count (disk_of mid) ≡ g.fault_count (disk_of old) → limit_in mid ≡ limit_in old → Leaves mid P result → Leaves old P result
+  goes_on mid P result first same kept later = record {
     any_moment = left_along g (disk_of old) (disk_of mid) (disk_left result) P first later.any_moment;
     faults = later.faults ∙ ap (fault_count_after (has_failed result)) same;
+    limit = subst (λ n. KeepsLimit n result) kept later.limit;
   }

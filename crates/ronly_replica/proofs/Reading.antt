@@ -1,7 +1,6 @@
 -- a read of held objects that are the ranges of a content is the range of it
 use Rattle.std.proofs.Common.{◌≡◌, ℕ, ◌+◌, ◌-◌, ◌*◌, ◌/◌, ◌<◌, ◌≤◌, inl, inr, List, [], length, map, take, drop, refl, ap, sym, ◌∙◌, subst, arith, Option, Some, Bool, true, false}
 use Rattle.std.specs.Prelude.{Result, Ok, Err, IfOk, IsTrue, min, ◌==◌, nat_lt, if◌then◌else◌}
-use Rattle.xt_base.specs.Faults.{fault_count_after}
 use Rattle.std.specs.List.{range_with_len, concat}
 use Rattle.std.proofs.lemmas.Bool.{cases_lt}
 use Rattle.std.proofs.lemmas.Bool.Decides.{nat_tests}
@@ -20,9 +19,9 @@ use Rattle.ronly_replica.specs.declared.errors.RonlyErr.{RonlyErr}
 use Rattle.ronly_replica.specs.declared.errors.RonlyErr.TheVariants as err
 use Rattle.ronly_replica.specs.Pins.{shown_in, objects_below, end_of, objects_of, IsPinOf}
 use Rattle.ronly_replica.specs.Access.{pin_of, records_of, disk_of}
-use Rattle.ronly_replica.specs.Disks.{Leaves, without_bytes, disk_left, has_failed}
+use Rattle.ronly_replica.specs.Disks.{Leaves, without_bytes, limit_in}
 use Rattle.ronly_replica.specs.Making.{ShownEnds}
-use Rattle.ronly_replica.specs.Holding.{Fetching, Holds, begun, LeavesHeld, Shows, length_of, StopsAt, HoldEnds, ReadEnds, ShowsFrozen, KeepsFrozen}
+use Rattle.ronly_replica.specs.Holding.{Fetching, Holds, begun, Shows, length_of, StopsAt, HoldEnds, ReadEnds, ShowsFrozen, KeepsFrozen}
 use Rattle.ronly_replica.proofs.Frozen.{IsFrozen, frozen_along}
 use Rattle.ronly_replica.proofs.HeldRanges.{all_held, shown_pieces}
 use Rattle.ronly_replica.proofs.Left as disks
@@ -218,10 +217,10 @@ module _ {D : Type 0} {g : Ghosts D} {O : Type 0} (fetches : Fetching O) (old : 
 -- showing leaves the disk alone
 shown_left : {D : Type 0} {g : Ghosts D} (replica : Ronly D g) (at below : ℕ) (P : List ℕ → Type 0) (result : Result (Ronly D g × List ℕ) (RonlyErr D g))
     → ShownEnds replica at below result → Leaves replica P (without_bytes result)
-shown_left replica at below P (Ok made) shown = disks.untouched replica P (Ok made.0) (ap disk_of shown.0) refl
-shown_left replica at below P (Err (err.OutOfMemory back)) shown = disks.untouched replica P (Err (err.OutOfMemory back)) (ap disk_of shown) refl
+shown_left replica at below P (Ok made) shown = disks.untouched replica P (Ok made.0) (ap disk_of shown.0) refl (ap limit_in shown.0)
+shown_left replica at below P (Err (err.OutOfMemory back)) shown = disks.untouched replica P (Err (err.OutOfMemory back)) (ap disk_of shown) refl tt
 shown_left replica at below P (Err (err.Bodies count disk)) shown =
-    record { any_moment = λ told. absurd (shown.2 told); faults = sym shown.0 ∙ shown.1 }
+    record { any_moment = λ told. absurd (shown.2 told); faults = sym shown.0 ∙ shown.1; limit = tt }
 shown_left replica at below P (Err (err.PinStore back pins)) shown = absurd shown
 shown_left replica at below P (Err (err.Unloaded back)) shown = absurd shown
 shown_left replica at below P (Err (err.Moved back count)) shown = absurd shown
@@ -232,4 +231,4 @@ shown_left replica at below P (Err (err.Full back need limit)) shown = absurd sh
 pub read_left : {D : Type 0} {g : Ghosts D} (old replica : Ronly D g) (at below : ℕ) (P : List ℕ → Type 0) (result : Result (Ronly D g × List ℕ) (RonlyErr D g))
     → Leaves old P (Ok replica) → ShownEnds replica at below result → Leaves old P (without_bytes result)
 read_left old replica at below P result held shown =
-    disks.goes_on old replica P (without_bytes result) held.any_moment held.faults (shown_left replica at below P result shown)
+    disks.goes_on old replica P (without_bytes result) held.any_moment held.faults held.limit (shown_left replica at below P result shown)

@@ -3,11 +3,12 @@ use Rattle.std.specs.Prelude.{◌≡◌, ◌⊎◌, Bool, true, false, IsTrue, R
 use Rattle.disk_model.specs.declared.disk.Disk.{Ghosts}
 use Rattle.disk_model.specs.Disk.{LeavesOnly}
 use Rattle.xt_base.specs.Faults.{fault_count_after}
+use Rattle.xt_journal.specs.Access.{limit_of}
 use Rattle.object_store.specs.Access as store
 use Rattle.ronly_replica.specs.declared.replica.Ronly.{Ronly}
 use Rattle.ronly_replica.specs.declared.errors.RonlyErr.{RonlyErr}
 use Rattle.ronly_replica.specs.declared.errors.RonlyErr.TheVariants as err
-use Rattle.ronly_replica.specs.Access.{disk_of}
+use Rattle.ronly_replica.specs.Access.{disk_of, store_of}
 
 module _ {D : Type 0} {g : Ghosts D} where
   -- the disk of what an error hands back
@@ -35,6 +36,16 @@ module _ {D : Type 0} {g : Ghosts D} where
   has_failed (Ok replica) = false
   has_failed (Err why) = is_fault why
 
+  -- how many bytes the journal of a replica may have
+  abbrev pub limit_in : Ronly D g → ℕ
+  limit_in replica = limit_of (store.journal_of (store_of replica))
+
+  -- this stays the limit of the journal, and is what is reported where there is no room
+  abbrev pub KeepsLimit : ℕ → Result (Ronly D g) (RonlyErr D g) → Type 0
+  KeepsLimit limit (Ok replica) = limit_in replica ≡ limit
+  KeepsLimit limit (Err (err.Full replica need most)) = most ≡ limit
+  KeepsLimit limit (Err _) = Unit {0}
+
   -- a read gives bytes beside the replica
   abbrev pub without_bytes : Result (Ronly D g × List ℕ) (RonlyErr D g) → Result (Ronly D g) (RonlyErr D g)
   without_bytes (Ok made) = Ok made.0
@@ -44,8 +55,9 @@ module _ {D : Type 0} {g : Ghosts D} where
 abbrev pub LeftSo : {D : Type 0} → Ghosts D → D → D → (List ℕ → Type 0) → Type 0
 LeftSo g old new P = IsTrue g.is_told → (new ≡ old) ⊎ LeavesOnly g.moment g.left_since old new P
 
--- What a call does to the disk of a replica: a crash at any moment leaves what has P; and the disk counts one fault more exactly where the
--- call ends by one.
+-- What a call does to the disk of a replica: a crash at any moment leaves what has P; the disk counts one fault more exactly where the call
+-- ends by one; and the journal's limit stays.
 pub record Leaves {D : Type 0} {g : Ghosts D} (old : Ronly D g) (P : List ℕ → Type 0) (result : Result (Ronly D g) (RonlyErr D g)) : Type 0 where
   pub any_moment : LeftSo g (disk_of old) (disk_left result) P
   pub faults : g.fault_count (disk_left result) ≡ fault_count_after (has_failed result) (g.fault_count (disk_of old))
+  pub limit : KeepsLimit (limit_in old) result

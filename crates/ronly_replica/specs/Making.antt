@@ -1,9 +1,9 @@
 -- what making a replica does to a store, what loading one finds there, and what is shown of it
-use Rattle.std.specs.Prelude.{ℕ, ◌≡◌, ◌≢◌, ◌⊎◌, Bool, true, false, IsTrue, Option, None, length, Result, Ok, Err, List, [], ◌∷◌, ◌++◌}
+use Rattle.std.specs.Prelude.{ℕ, ◌≡◌, ◌≢◌, ◌⊎◌, Bool, true, false, IsTrue, Option, None, length, Result, Ok, Err, IfOk, List, [], ◌∷◌, ◌++◌}
 use Rattle.disk_model.specs.declared.disk.Disk.{Ghosts}
 use Rattle.xt_base.specs.Faults.{fault_count_after}
 use Rattle.xt_messages.specs.declared.record.Record.{Record}
-use Rattle.xt_journal.specs.Access.{place_of}
+use Rattle.xt_journal.specs.Access.{limit_of, place_of}
 use Rattle.xt_journal.specs.Append.{IsWithAllOrNone}
 use Rattle.xt_protocol.specs.Folds.{fold_of}
 use Rattle.object_store.specs.declared.store.Store.{Store}
@@ -21,7 +21,7 @@ use Rattle.ronly_replica.specs.declared.errors.RonlyErr.{RonlyErr}
 use Rattle.ronly_replica.specs.declared.errors.RonlyErr.TheVariants as err
 use Rattle.ronly_replica.specs.Pins.{view_of, head_of, pins_of, held_in, Lacks}
 use Rattle.ronly_replica.specs.Access.{pin_of, records_of, store_of, disk_of}
-use Rattle.ronly_replica.specs.Disks.{LeftSo}
+use Rattle.ronly_replica.specs.Disks.{LeftSo, limit_in}
 use Rattle.ronly_replica.specs.Holding.{Shows}
 
 -- what the files are pinned to that have a place in these records
@@ -71,10 +71,11 @@ module _ {D : Type 0} {g : Ghosts D} where
   has_broken (Err (make.Broken count disk)) = true
   has_broken _ = false
 
-  -- A crash at any moment leaves the old records, with both of the pin or with none of them.
+  -- A crash at any moment leaves the old records, with both of the pin or with none of them; and the journal's limit stays.
   pub record MakeLeaves (old : Store D g) (pin : Pin) (result : Result (Ronly D g) (MakeErr D g)) : Type 0 where
     pub any_moment : LeftSo g (store.disk_of old) (disk_made result) (IsWithAllOrNone (texts_of (store.records_of old)) (texts_of (both_of pin)))
     pub faults : g.fault_count (disk_made result) ≡ fault_count_after (has_broken result) (g.fault_count (store.disk_of old))
+    pub limit : IfOk result (λ new. limit_in new ≡ limit_of (store.journal_of old))
 
   -- It is the replica of the one file with a place; or there isn't one such file; or memory ran out, and the store is as it was.
   abbrev pub LoadEnds : Store D g → Result (Ronly D g) (RonlyErr D g) → Type 0

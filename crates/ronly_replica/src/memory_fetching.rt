@@ -47,6 +47,7 @@ fn fetched_of(
 }
 
 impl Origin for MemoryOrigin {
+    ghost use Rattle.std.specs.Prelude.{[]};
     ghost use Rattle.ronly_replica.specs.MemoryOrigins.{MemoryFetches};
     ghost use Rattle.ronly_replica.specs.MemoryLaws.{memory_tells, memory_stays};
 
@@ -61,6 +62,8 @@ impl Origin for MemoryOrigin {
     ghost stays = { memory_stays };
 
     ghost is_ready = { λ o. Unit {0} };
+
+    ghost references = { λ o. [] };
 
     ghost link_faults = { λ o. o.faults };
 

@@ -1,4 +1,5 @@
 ghost use Rattle.std.specs.Prelude.{◌≡◌, ℕ, Option, Some, List, Result, Ok, IfOk, length};
+ghost use Rattle.std.specs.Borrow.{GName};
 ghost use Rattle.xt_base.specs.FieldLimits.{FitsBytes};
 ghost use Rattle.striping.specs.Cover.{object_of};
 ghost use Rattle.ronly_replica.specs.Origins.{HasOriginCause, StaysReady};
@@ -72,6 +73,9 @@ pub trait Origin {
     /// Whether the next object may be fetched.
     ghost is_ready: { Self → Type 0 };
 
+    /// The references that it works through, which stay the same ones.
+    ghost references: { Self → List GName };
+
     /// How often its link has failed.
     ghost link_faults: { Self → ℕ };
 
@@ -83,6 +87,7 @@ pub trait Origin {
     fn fetch(&mut self, object: u64) -> Result<Fetched, OriginErr>
         requires ready { is_ready self.old }
         ensures does { fetches self.old object result self.new }
+        ensures references { references self.new ≡ references self.old }
         ensures fits { IfOk result (λ fetched. FitsBytes fetched.bytes) }
         ensures ready { StaysReady result → is_ready self.new }
         ensures cause { HasOriginCause (link_faults self.old) (link_faults self.new)

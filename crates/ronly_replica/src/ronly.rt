@@ -199,6 +199,7 @@ impl<D: Disk> Ronly<D> {
         ensures leaves { Leaves self (LeavesHeld O.fetches D.is_told (pin_of self)
             (records_of self) origin.old (object ∷ [])) result }
         ensures ready { IfOk result (λ next. O.is_ready origin.new) }
+        ensures references { O.references origin.new ≡ O.references origin.old }
     {
         if self.is_held(object) {
             return Ok(self);
@@ -229,6 +230,7 @@ impl<D: Disk> Ronly<D> {
             (range_with_len first (end - first)) result }
         ensures leaves { Leaves self (LeavesHeld O.fetches D.is_told (pin_of self)
             (records_of self) origin.old (range_with_len first (end - first))) result }
+        ensures references { O.references origin.new ≡ O.references origin.old }
     {
         let mut replica = self;
         for object in first..end {
@@ -271,6 +273,7 @@ impl<D: Disk> Ronly<D> {
         ensures leaves { Leaves self (LeavesHeld O.fetches D.is_told (pin_of self)
             (records_of self) origin.old (rows.objects_of (pin_of self) at len))
             (without_bytes result) }
+        ensures references { O.references origin.new ≡ O.references origin.old }
     {
         let alloc = self.alloc;
         let stripe = self.pin.location.stripe;
@@ -293,6 +296,7 @@ impl<D: Disk> Ronly<D> {
         ensures leaves { Leaves self (LeavesHeld O.fetches D.is_told (pin_of self)
             (records_of self) origin.old
             (rows.objects_of (pin_of self) 0 (pin_of self).mark.size)) result }
+        ensures references { O.references origin.new ≡ O.references origin.old }
     {
         let end = objects_below(self.pin.mark.size, self.pin.location.stripe);
         self.hold_all(origin, 0, end)

@@ -7,7 +7,7 @@ pub returns-then-is_held-clause-holds : goal.returns-then-is_held-clause-holds
 returns-then-is_held-clause-holds g c = already g.O.Origin.fetches c.args.self c.args.origin.now c.args.object (sym c.is_held.ensures ∙ c.if-is_held.true)
 
 pub returns-then-is_held-clause-leaves : goal.returns-then-is_held-clause-leaves
-returns-then-is_held-clause-leaves g c = untouched c.args.self _ _ refl refl
+returns-then-is_held-clause-leaves g c = untouched c.args.self _ _ refl refl refl
 
 pub returns-in-Ok-clause-holds : goal.returns-in-Ok-clause-holds
 returns-in-Ok-clause-holds g c =
@@ -25,7 +25,7 @@ returns-then-is_memory-clause-holds g c =
     (sym c.is_held.ensures ∙ c.if-is_held.false) c.in-Err.ensures.does
 
 pub returns-then-is_memory-clause-leaves : goal.returns-then-is_memory-clause-leaves
-returns-then-is_memory-clause-leaves g c = untouched c.args.self _ _ refl refl
+returns-then-is_memory-clause-leaves g c = untouched c.args.self _ _ refl refl tt
 
 pub returns-else-is_memory-clause-holds : goal.returns-else-is_memory-clause-holds
 returns-else-is_memory-clause-holds g c =
@@ -33,4 +33,4 @@ returns-else-is_memory-clause-holds g c =
     (sym c.is_held.ensures ∙ c.if-is_held.false) c.in-Err.ensures.does (sym c.is_memory.ensures ∙ c.if-is_memory.false)
 
 pub returns-else-is_memory-clause-leaves : goal.returns-else-is_memory-clause-leaves
-returns-else-is_memory-clause-leaves g c = untouched c.args.self _ _ refl refl
+returns-else-is_memory-clause-leaves g c = untouched c.args.self _ _ refl refl tt

@@ -1,4 +1,4 @@
-use Rattle.std.proofs.Common.{◌≡◌, ◌-◌, refl, sym, subst, arith}
+use Rattle.std.proofs.Common.{◌≡◌, ◌-◌, ◌∙◌, refl, sym, subst, arith}
 use Rattle.std.specs.List.{range_with_len}
 use Rattle.ronly_replica.specs.Access.{pin_of, records_of}
 use Rattle.ronly_replica.specs.Holding.{Holds, begun}
@@ -13,6 +13,7 @@ loop-object-init g c =
       c.requires,
       omega arith,
       at_first g.O.Origin.fetches self c.args.origin.now c.args.first c.args.end,
+      refl,
     )
 
 pub loop-object-preserved : goal.loop-object-preserved
@@ -28,6 +29,7 @@ loop-object-preserved g c =
       left_then g.O.Origin.fetches self c.args.origin.now c.args.first c.args.end c.in-Ok.next
           (left_more g.O.Origin.fetches self c.args.origin.now c.args.first c.args.end c.loop-object.object c.loop-object.replica c.loop-object.origin _ (omega arith) (omega arith)
           c.loop-object.invariant.0 c.loop-object.invariant.1 c.loop-object.invariant.4 c.in-Ok.ensures.leaves),
+      c.hold.ensures.references ∙ c.loop-object.invariant.5,
     )
 
 pub returns-in-Err-clause-holds : goal.returns-in-Err-clause-holds

@@ -13,3 +13,4 @@ invariant-loop-object g l =
     × g.O.Origin.is_ready l.origin
     × (l.object - l.first ≤ l.end - l.first)
     × IsLeftAt g.O.Origin.fetches l.fn.self l.fn.origin l.first l.end l.replica
+    × (g.O.Origin.references l.origin ≡ g.O.Origin.references l.fn.origin)

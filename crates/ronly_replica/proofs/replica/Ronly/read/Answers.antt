@@ -14,7 +14,7 @@ returns-then-at-end-clause-reads g c =
     nothing_shown g.O.Origin.fetches c.args.self c.args.origin.now c.args.at c.args.len c.new.result (subst (λ e. e ≤ c.args.at) end c.if-at-end.true) c.new.ensures
 
 pub returns-then-at-end-clause-leaves : goal.returns-then-at-end-clause-leaves
-returns-then-at-end-clause-leaves g c = untouched c.args.self _ _ refl refl
+returns-then-at-end-clause-leaves g c = untouched c.args.self _ _ refl refl refl
 
 pub returns-in-Ok-clause-reads : goal.returns-in-Ok-clause-reads
 returns-in-Ok-clause-reads g c =
