@@ -187,9 +187,9 @@ module _ {D : Type 0} {g : Ghosts D} {O : Type 0} (fetches : Fetching O) (old : 
   read_shown replica below (Ok made) below_is ends shown = (
     subst (λ r. HoldEnds fetches old start after (objects_of (pin_of old) at len) (Ok r)) (sym shown.0) ends,
     (λ told.
-    let here = subst (λ p. Shows p (records_of replica) at below made.1) ends.0 (shown.1 told) in
-    subst (λ r. Shows (pin_of old) (records_of r) at (length_of (pin_of old) at len) made.1) (sym shown.0)
-    (subst (λ n. Shows (pin_of old) (records_of replica) at n made.1) below_is here)),
+        let here = subst (λ p. Shows p (records_of replica) at below made.1) ends.0 (shown.1 told) in
+        subst (λ r. Shows (pin_of old) (records_of r) at (length_of (pin_of old) at len) made.1) (sym shown.0)
+        (subst (λ n. Shows (pin_of old) (records_of replica) at n made.1) below_is here)),
   )
   read_shown replica below (Err (err.OutOfMemory back)) below_is ends shown =
       inr (subst (λ r. HoldEnds fetches old start after (objects_of (pin_of old) at len) (Ok r)) (sym shown) ends)

@@ -1,4 +1,4 @@
--- what a call of a replica leaves of its disk
+-- what a call of a replica leaves of its disk, and why its origin's faults rose
 use Rattle.std.specs.Prelude.{◌≡◌, ◌⊎◌, Bool, true, false, IsTrue, Result, Ok, Err, List, ℕ}
 use Rattle.disk_model.specs.declared.disk.Disk.{Ghosts}
 use Rattle.disk_model.specs.Disk.{LeavesOnly}
@@ -9,6 +9,7 @@ use Rattle.ronly_replica.specs.declared.replica.Ronly.{Ronly}
 use Rattle.ronly_replica.specs.declared.errors.RonlyErr.{RonlyErr}
 use Rattle.ronly_replica.specs.declared.errors.RonlyErr.TheVariants as err
 use Rattle.ronly_replica.specs.Access.{disk_of, store_of}
+use Rattle.ronly_replica.specs.Origins.{HasOriginCause}
 
 module _ {D : Type 0} {g : Ghosts D} where
   -- the disk of what an error hands back
@@ -45,6 +46,11 @@ module _ {D : Type 0} {g : Ghosts D} where
   KeepsLimit limit (Ok replica) = limit_in replica ≡ limit
   KeepsLimit limit (Err (err.Full replica need most)) = most ≡ limit
   KeepsLimit limit (Err _) = Unit {0}
+
+  -- a count of faults of the origin rose exactly where its fault is reported, and is the count that it reports
+  abbrev pub HasFetchCause : ℕ → ℕ → ℕ → ℕ → Result (Ronly D g) (RonlyErr D g) → Type 0
+  HasFetchCause link link_after clock clock_after (Err (err.Origin replica why)) = HasOriginCause link link_after clock clock_after (Err why)
+  HasFetchCause link link_after clock clock_after _ = (link_after ≡ link) × (clock_after ≡ clock)
 
   -- a read gives bytes beside the replica
   abbrev pub without_bytes : Result (Ronly D g × List ℕ) (RonlyErr D g) → Result (Ronly D g) (RonlyErr D g)

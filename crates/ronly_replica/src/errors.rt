@@ -7,7 +7,10 @@ use object_store::Store;
 #[derive(Drop)]
 pub enum MakeErr<D: Disk> {
     /// The disk has failed; this is its count of faults. The store must be loaded again.
-    Broken { count: u64, disk: D },
+    Broken {
+        count: u64,
+        disk: D,
+    },
     /// The journal would need this many bytes, which passes its limit. The store is as it was.
     Full {
         store: Store<D>,
@@ -15,7 +18,9 @@ pub enum MakeErr<D: Disk> {
         limit: u64,
     },
     /// Memory ran out, and nothing was put.
-    OutOfMemory { disk: D },
+    OutOfMemory {
+        disk: D,
+    },
 }
 
 /// Why a replica isn't loaded, or doesn't show what was asked for.

@@ -9,7 +9,7 @@ ghost use Rattle.ronly_replica.specs.Pins as rows;
 ghost use Rattle.ronly_replica.specs.Pins.{FitsPin};
 ghost use Rattle.ronly_replica.specs.Access.{pin_of, records_of, disk_of};
 ghost use Rattle.xt_protocol.specs.Folds.{fold_of, IsInPlace};
-ghost use Rattle.ronly_replica.specs.Disks.{Leaves, without_bytes};
+ghost use Rattle.ronly_replica.specs.Disks.{HasFetchCause, Leaves, without_bytes};
 ghost use Rattle.ronly_replica.specs.Holding.{HoldEnds, KeepsFrozen, LeavesHeld, LeavesTaken, PutEnds, ReadEnds, ShowsFrozen, TakeEnds};
 ghost use Rattle.ronly_replica.specs.Making as making;
 ghost use Rattle.ronly_replica.specs.Making.{LoadEnds, MakeEnds, MakeLeaves, ShownEnds, WaitEnds};
@@ -200,6 +200,8 @@ impl<D: Disk> Ronly<D> {
             (records_of self) origin.old (object ∷ [])) result }
         ensures ready { IfOk result (λ next. O.is_ready origin.new) }
         ensures references { O.references origin.new ≡ O.references origin.old }
+        ensures cause { HasFetchCause (O.link_faults origin.old) (O.link_faults origin.new)
+            (O.clock_faults origin.old) (O.clock_faults origin.new) result }
     {
         if self.is_held(object) {
             return Ok(self);
@@ -231,6 +233,8 @@ impl<D: Disk> Ronly<D> {
         ensures leaves { Leaves self (LeavesHeld O.fetches D.is_told (pin_of self)
             (records_of self) origin.old (range_with_len first (end - first))) result }
         ensures references { O.references origin.new ≡ O.references origin.old }
+        ensures cause { HasFetchCause (O.link_faults origin.old) (O.link_faults origin.new)
+            (O.clock_faults origin.old) (O.clock_faults origin.new) result }
     {
         let mut replica = self;
         for object in first..end {
@@ -274,6 +278,8 @@ impl<D: Disk> Ronly<D> {
             (records_of self) origin.old (rows.objects_of (pin_of self) at len))
             (without_bytes result) }
         ensures references { O.references origin.new ≡ O.references origin.old }
+        ensures cause { HasFetchCause (O.link_faults origin.old) (O.link_faults origin.new)
+            (O.clock_faults origin.old) (O.clock_faults origin.new) (without_bytes result) }
     {
         let alloc = self.alloc;
         let stripe = self.pin.location.stripe;
@@ -297,6 +303,8 @@ impl<D: Disk> Ronly<D> {
             (records_of self) origin.old
             (rows.objects_of (pin_of self) 0 (pin_of self).mark.size)) result }
         ensures references { O.references origin.new ≡ O.references origin.old }
+        ensures cause { HasFetchCause (O.link_faults origin.old) (O.link_faults origin.new)
+            (O.clock_faults origin.old) (O.clock_faults origin.new) result }
     {
         let end = objects_below(self.pin.mark.size, self.pin.location.stripe);
         self.hold_all(origin, 0, end)

@@ -1,4 +1,5 @@
 use Rattle.std.proofs.Common.{refl, sym, ◌∙◌}
+use Rattle.ronly_replica.proofs.Causes.{memory_cause, take_cause}
 use Rattle.ronly_replica.proofs.Holdings.{already, taken, held_left, unfetched, no_memory}
 use Rattle.ronly_replica.proofs.Left.{untouched}
 use Rattle.ronly_replica.proofs.replica.Ronly.hold.Goals as goal
@@ -34,3 +35,9 @@ returns-else-is_memory-clause-holds g c =
 
 pub returns-else-is_memory-clause-leaves : goal.returns-else-is_memory-clause-leaves
 returns-else-is_memory-clause-leaves g c = untouched c.args.self _ _ refl refl tt
+
+pub returns-in-Ok-clause-cause : goal.returns-in-Ok-clause-cause
+returns-in-Ok-clause-cause g c = take_cause c.args.self c.args.object _ _ _ _ c.in-Ok.fetched c.take.result c.take.ensures.takes c.in-Ok.ensures.cause.0 c.in-Ok.ensures.cause.1
+
+pub returns-then-is_memory-clause-cause : goal.returns-then-is_memory-clause-cause
+returns-then-is_memory-clause-cause g c = memory_cause _ _ _ _ c.in-Err.fault (sym c.is_memory.ensures ∙ c.if-is_memory.true) c.in-Err.ensures.cause

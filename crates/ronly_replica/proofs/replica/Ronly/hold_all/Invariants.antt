@@ -14,3 +14,5 @@ invariant-loop-object g l =
     × (l.object - l.first ≤ l.end - l.first)
     × IsLeftAt g.O.Origin.fetches l.fn.self l.fn.origin l.first l.end l.replica
     × (g.O.Origin.references l.origin ≡ g.O.Origin.references l.fn.origin)
+    × (g.O.Origin.link_faults l.origin ≡ g.O.Origin.link_faults l.fn.origin)
+    × (g.O.Origin.clock_faults l.origin ≡ g.O.Origin.clock_faults l.fn.origin)

@@ -4,6 +4,7 @@ use Rattle.ronly_replica.specs.Access.{pin_of, records_of}
 use Rattle.ronly_replica.specs.Disks.{Leaves}
 use Rattle.ronly_replica.specs.Holding.{HoldEnds, LeavesHeld, StopsAt}
 use Rattle.ronly_replica.specs.Pins.{end_of, objects_below, objects_of}
+use Rattle.ronly_replica.proofs.Causes.{shown_cause}
 use Rattle.ronly_replica.proofs.Left.{untouched}
 use Rattle.ronly_replica.proofs.Reading.{nothing_shown, empty_frozen, some_objects, shown_frozen, read_shown, read_stopped, read_left}
 use Rattle.ronly_replica.proofs.replica.Ronly.read.Goals as goal
@@ -66,3 +67,6 @@ returns-in-Err-clause-leaves g c =
     let same = some_objects (pin_of self) c.args.at c.args.len _ _ (subst (λ e. c.args.at < e) end lt)
     (ap (λ s. c.args.at / s) c.from.ensures) (c.objects_below.ensures ∙ ap (objects_below self.pin.location.stripe) end) in
     subst (λ l. Leaves self (LeavesHeld g.O.Origin.fetches g.D.Disk.is_told (pin_of self) (records_of self) c.args.origin.now l) (Err c.in-Err.error)) same c.in-Err.ensures.leaves
+
+pub returns-in-Ok-clause-cause : goal.returns-in-Ok-clause-cause
+returns-in-Ok-clause-cause g c = shown_cause c.in-Ok.replica c.args.at _ _ _ _ _ c.shown.result c.shown.ensures c.in-Ok.ensures.cause.0 c.in-Ok.ensures.cause.1

@@ -1,0 +1,4 @@
+pub mod Ends
+pub mod Calls
+pub mod Replicas
+pub mod Jobs
