@@ -21,6 +21,7 @@ use Rattle.client_jobs.specs.Running.{Counts, Begins, call_in, client_of, status
 use Rattle.client_jobs.specs.Lines.{IsListed}
 use Rattle.client_jobs.specs.declared.session.CommandSession.{CommandSession}
 use Rattle.ronly_replica.specs.declared.pin.Pin.{Pin}
+use Rattle.client_origin.specs.Fetching.{OriginView}
 use Rattle.pin_job.specs.declared.job.ReplicaJob.{ReplicaJob}
 use Rattle.pin_job.specs.Ends.{end_of, is_done}
 
@@ -40,6 +41,10 @@ pub record IsQuiet (before after : Around) : Type 0 where
 pub record HasOpened (job : ReplicaJob) (before after : Around) (session : CommandSession) : Type 0 where
   pub quiet : IsQuiet before after
   pub begins : Begins (asker job) before.to_read after.to_read session
+
+-- what contracts know of a command's client as it begins to fetch, by what is around it
+abbrev pub fetcher : CommandSession → Around → OriginView
+fetcher session around = record { driver = session.driver; client = session.client; around = around }
 
 -- ---- what is asked
 
@@ -62,6 +67,12 @@ pub data CallEnds (job : ReplicaJob) (session : CommandSession) (asked : Call) (
       → CallEnds job session asked before after why
   answered : (left : CommandSession) (ended : CallResult) → Carries job session asked before after left ended → (why ≡ end_of ended) ⊎ (why ≡ status.OutOfMemory)
       → CallEnds job session asked before after why
+
+-- what comes of carrying a call out
+abbrev pub CarryEnds : ReplicaJob → CommandSession → Call → Around → Around → CommandSession → Result (Unit {0}) Status → Type 0
+CarryEnds job session asked before after left (Ok done) = HasCarried (call_in session asked job.base.who.tries) before after left.driver left.client
+CarryEnds job session asked before after left (Err why) =
+    (failed : DriveErr) × (why ≡ status_of failed) × CannotCarry (call_in session asked job.base.who.tries) before after left.driver left.client failed
 
 -- ---- the lists
 
@@ -137,6 +148,12 @@ pub record HasProbed (job : ReplicaJob) (session : CommandSession) (capability :
   pub bytes : List ℕ
   pub probes : Carries job session (probe_call capability) before after left (how.Ok count mark bytes)
   pub is : pin ≡ pinned capability count mark
+
+-- the pin in the result of that read
+abbrev pub IsPinnedIn : Capability → CallResult → Result Pin Status → Type 0
+IsPinnedIn capability ended (Ok pin) =
+    (count : ℕ) × (mark : SizeMark) × (bytes : List ℕ) × (ended ≡ how.Ok count mark bytes) × (pin ≡ pinned capability count mark)
+IsPinnedIn capability ended (Err why) = (why ≡ end_of ended) ⊎ (why ≡ status.OutOfMemory)
 
 abbrev pub ProbeEnds : ReplicaJob → CommandSession → Capability → Around → Around → CommandSession → Result Pin Status → Type 0
 ProbeEnds job session capability before after left (Ok pin) = HasProbed job session capability before after left pin

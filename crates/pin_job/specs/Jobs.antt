@@ -20,17 +20,13 @@ use Rattle.ronly_replica.specs.Holding.{LeavesHeld}
 use Rattle.ronly_replica.specs.Making.{pins_in, both_of}
 use Rattle.client_origin.specs.Fetching.{OriginView, FetchesOver}
 use Rattle.pin_job.specs.declared.job.ReplicaJob.{ReplicaJob}
-use Rattle.pin_job.specs.Calls.{IsQuiet, HasOpened, HasGranted, EndsUngranted, HasProbed, CallEnds, probe_call}
+use Rattle.pin_job.specs.Calls.{IsQuiet, HasOpened, HasGranted, EndsUngranted, HasProbed, CallEnds, probe_call, fetcher}
 use Rattle.pin_job.specs.Replicas.{Gives, EndsMisplaced, LeftSo, EndsUnmade, MadeSo, HoldsTo, ReadsTo, status_by}
 
 -- What is around a command, and its disk.
 pub record Site (D : Type 0) : Type 0 where
   pub around : Around
   pub disk : D
-
--- what contracts know of a command's client after these calls, by what is around it
-abbrev pub fetcher : CommandSession → Around → OriginView
-fetcher session around = record { driver = session.driver; client = session.client; around = around }
 
 module _ {D : Type 0} (m : Medium D) (job : ReplicaJob) where
   -- ---- up to the capability
@@ -121,14 +117,14 @@ module _ {D : Type 0} (m : Medium D) (job : ReplicaJob) where
         → HasBegun (HasPin pin) before between records session capability → is_file pin.file capability.file ≡ true
         → Shows job.base.settings.limit pin records (fetcher session between.around) between after range result → Gets range before after result
 
-  -- the bytes are put to the sink, as they are or in hex, or the last line of the status
+  -- the bytes are put to the sink, as they are or in hex; or the sink fails over them, or memory runs out before; without bytes the last line
+  -- of the status is put
   abbrev pub Tells : Bool → Option (List ℕ) → Option (List ℕ) → ℕ → ℕ → Result (List ℕ) Status → Status → Type 0
+  Tells hex held later sink risen (Ok bytes) said =
+      ((said ≡ status.Done) × Puts held later (shown_as hex bytes ++ line_end hex) × (risen ≡ sink))
+      ⊎ (((count : ℕ) × (said ≡ status.SinkFault count) × PutsFront held later (shown_as hex bytes ++ line_end hex) × Rose sink risen × (count ≡ risen))
+      ⊎ Closes held later sink risen status.OutOfMemory said)
   Tells hex held later sink risen (Err why) said = Closes held later sink risen why said
-  Tells hex held later sink risen (Ok bytes) (status.SinkFault count) =
-      PutsFront held later (shown_as hex bytes ++ line_end hex) × Rose sink risen × (count ≡ risen)
-  Tells hex held later sink risen (Ok bytes) status.OutOfMemory = (later ≡ held) × (risen ≡ sink)
-  Tells hex held later sink risen (Ok bytes) status.Done = Puts held later (shown_as hex bytes ++ line_end hex) × (risen ≡ sink)
-  Tells hex held later sink risen (Ok bytes) _ = ⊥
 
   -- What `rget` does: it writes what its range has, or the last line of its status. The counts of faults rose exactly where that reports it.
   pub record IsRget (range : Option (ℕ × ℕ)) (hex : Bool) (before after : Site D) (held later : Option (List ℕ)) (sink risen : ℕ) (counts now : Counts) (said : Status)

@@ -29,11 +29,7 @@ fn own_address(dir: &Address) -> &'static str {
 }
 
 /// Takes an address for the link, and reads the clock.
-fn opened<L: Link, C: Clock>(
-    dir: &Address,
-    link: &mut L,
-    clock: &mut C,
-) -> Result<u64, Status>
+fn opened<L: Link, C: Clock>(dir: &Address, link: &mut L, clock: &mut C) -> Result<u64, Status>
     ensures link { (L.given link.new ≡ L.given link.old) × (L.sent link.new ≡ L.sent link.old)
         × (L.loss_count link.new ≡ L.loss_count link.old) }
     ensures reads { IfOk result (λ reading. Reads (C.readings clock.old) (C.readings clock.new)
