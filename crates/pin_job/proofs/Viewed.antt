@@ -2,6 +2,7 @@
 use Rattle.std.proofs.Common.{◌≡◌, ◌≢◌, ℕ, ◌<◌, ◌-◌, ◌×◌, inl, inr, List, [], ◌∷◌, ◌++◌, refl, ap, sym, ◌∙◌, subst, Option, Some, None, Bool, true, false}
 use Rattle.std.specs.Prelude.{Result, Ok, Err, IsTrue}
 use Rattle.disk_model.specs.declared.disk.Disk.{Ghosts}
+use Rattle.disk_model.specs.Disk.{LeavesOnly}
 use Rattle.disk_model.proofs.Moments as moments
 use Rattle.xt_base.specs.Faults.{fault_count_after}
 use Rattle.xt_messages.specs.declared.record.Record.{Record}
@@ -180,11 +181,16 @@ module _ {L C : Type 0} (given sent : L → Option (List Datagram)) (losses : L 
     pub left_viewed : (objects : List ℕ) (result : Result (Ronly D g) (RonlyErr D g)) (disk : D) → disk ≡ disk_left result
         → Leaves old (LeavesHeld (ClientFetches given sent losses readings) g.is_told (pin_of old) (records_of old) start objects) result
         → LeftSo (medium_of g) (disk_of old) disk (LeavesHeld Over g.is_told (pin_of old) (records_of old) (View start) objects)
-    left_viewed objects result disk same left told = elim (left.any_moment told) [
-      | inl kept ↦ inl (same ∙ kept)
-      | inr run ↦ inr (subst (λ d. _) (sym same)
-          (moments.weaker g.moment g.left_since (disk_of old) (disk_left result) _ _ run (λ image is. image_viewed g.is_told (pin_of old) (records_of old) objects image is)))
-    ]
+    left_viewed objects result disk same left told =
+        let before : List ℕ → Type 0 = LeavesHeld (ClientFetches given sent losses readings) g.is_told (pin_of old) (records_of old) start objects in
+        let after : List ℕ → Type 0 = LeavesHeld Over g.is_told (pin_of old) (records_of old) (View start) objects in
+        elim (left.any_moment told) [
+          | inl kept ↦ inl (same ∙ kept)
+          | inr run ↦
+              inr (subst (λ d. LeavesOnly g.moment g.left_since (disk_of old) d after) (sym same)
+              (moments.weaker g.moment g.left_since (disk_of old) (disk_left result) before after run
+              (λ image is. image_viewed g.is_told (pin_of old) (records_of old) objects image is)))
+        ]
 
 -- ---- causes
 
