@@ -36,7 +36,7 @@ all_fit [] all = tt
 all_fit (e ∷ es) all = let one : FitsHeldFile e.1 = all.0 in (one.right, all_fit es all.1)
 
 -- what is held is within its limits
-held_fits : (client : ClientView) (file : FileId) (h : HeldFile) → FitsClient client.state → held_of client.state.held file.number ≡ Some h → FitsCapability h.capability
+pub held_fits : (client : ClientView) (file : FileId) (h : HeldFile) → FitsClient client.state → held_of client.state.held file.number ≡ Some h → FitsCapability h.capability
 held_fits client file h fits is =
     held_found (λ n capability. FitsCapability capability) client.state.held file.number h is (all_fit client.state.held fits.holds)
 
@@ -61,7 +61,7 @@ read_fits client file object small ready =
 
 -- ---- its end
 
-not_busy : (o : Option MadeCall) (how : CallResult) → rows.result_in o ≡ Some how → rows.is_busy o ≡ false
+pub not_busy : (o : Option MadeCall) (how : CallResult) → rows.result_in o ≡ Some how → rows.is_busy o ≡ false
 not_busy None how is = refl
 not_busy (Some made) how is = at made.stage is
   where

@@ -1,1 +1,2 @@
 pub mod Viewed
+pub mod Calls

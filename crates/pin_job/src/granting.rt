@@ -39,6 +39,7 @@ pub fn carry<L: Link, C: Clock>(
         (around_of L.given L.sent L.loss_count C.readings link.new clock.new)
         session.new result }
     ensures ended { IfOk result (λ done. IsSome (result_in session.new.client.state.made)) }
+    ensures room { IfOk result (λ done. session.old.client.state.replicas.next < 2 ^ 62) }
     ensures cause { (source : ℕ) → IfErr result (HasWhy
         (counts_of (L.fault_count link.old) (C.fault_count clock.old) source)
         (counts_of (L.fault_count link.new) (C.fault_count clock.new) source)) }
