@@ -7,11 +7,13 @@ use Rattle.xt_base.specs.declared.ids.NodeId.{NodeId}
 use Rattle.xt_base.specs.declared.ids.SizeMark.{SizeMark}
 use Rattle.xt_base.specs.declared.TheConstants.{COUNTS}
 use Rattle.xt_messages.specs.declared.file.Capability.{Capability}
+use Rattle.xt_messages.specs.declared.reply.Reply.{Reply}
 use Rattle.xt_messages.specs.declared.reply.Retry.{Retry}
 use Rattle.xt_messages.specs.declared.reply.Retry.TheVariants as retry
 use Rattle.xt_messages.specs.declared.meta.MetaReq.{MetaReq}
 use Rattle.xt_messages.specs.declared.meta.MetaAnswer.{MetaAnswer}
 use Rattle.xt_messages.specs.declared.meta.MetaAnswer.TheVariants as answer
+use Rattle.xt_messages.specs.declared.registry.RegistryAnswer.{RegistryAnswer}
 use Rattle.xt_messages.specs.declared.message.Payload.{Payload}
 use Rattle.xt_messages.specs.declared.message.Payload.TheVariants as payload
 use Rattle.xt_messages.specs.declared.event.Call.TheVariants as call
@@ -91,41 +93,43 @@ module _ (held : Held) (waited : NodeId) (until : ℕ) where
   gives_up : (target : NodeId) (how : Retry) → ComesHeld held (stage.Waiting waited until) (waiting.gives_up target how)
   gives_up target how = record { far = λ deadline. tt }
 
+  answer_comes : (told : MetaAnswer) → AnswerHeld (rows.holds_learnt held (waiting.granted told)) told
+  answer_comes (answer.Granted capability size) =
+      let found = ready_holds held capability size in record { entry = found.0; there = found.1; same = found.2 }
+  answer_comes answer.Done = tt
+  answer_comes (answer.Refused why) = tt
+  answer_comes (answer.Names names) = tt
+  answer_comes (answer.Row kind owner group mode mark) = tt
+  answer_comes (answer.Located location changing) = tt
+
   meta_comes : (r : Request) (told : MetaAnswer) → IsToServer r → ComesHeld held (stage.Waiting waited until) (waiting.meta_comes r told)
-  meta_comes (request.Meta user group asked) told is = record { far = λ deadline. at told }
-    where
-      at : (told : MetaAnswer) → AnswerHeld (rows.holds_learnt held (waiting.granted told)) told
-      at (answer.Granted capability size) =
-          let found = ready_holds held capability size in record { entry = found.0; there = found.1; same = found.2 }
-      at answer.Done = tt
-      at (answer.Refused why) = tt
-      at (answer.Names names) = tt
-      at (answer.Row kind owner group mode mark) = tt
-      at (answer.Located location changing) = tt
+  meta_comes (request.Meta user group asked) told is = record { far = λ deadline. answer_comes told }
   meta_comes (request.Replicated capability asked) told is = absurd is
   meta_comes (request.Striped capability asked) told is = absurd is
   meta_comes (request.Registry asked) told is = absurd is
+
+  reply_comes : (r : Request) (target from : NodeId) (content : Reply) → IsToServer r → ComesHeld held (stage.Waiting waited until) (waiting.reply_to held r target from content)
+  reply_comes (request.Meta user group asked) target from content is = waits_on
+  reply_comes (request.Replicated capability asked) target from content is = absurd is
+  reply_comes (request.Striped capability asked) target from content is = absurd is
+  reply_comes (request.Registry asked) target from content is = absurd is
+
+  registry_comes : (r : Request) (told : RegistryAnswer) → IsToServer r → ComesHeld held (stage.Waiting waited until) (waiting.registry_comes r told)
+  registry_comes (request.Meta user group asked) told is = waits_on
+  registry_comes (request.Replicated capability asked) told is = absurd is
+  registry_comes (request.Striped capability asked) told is = absurd is
+  registry_comes (request.Registry asked) told is = absurd is
 
   message_comes : (made : MadeCall) (target from : NodeId) (p : Payload) → IsToServer made.request → ComesHeld held (stage.Waiting waited until) (waiting.message_comes held made target from p)
   message_comes made target from (payload.MetaReply number told) is =
       either_held held (stage.Waiting waited until) (number == made.number && from.0 == target.0) (waiting.meta_comes made.request told) waiting.waits_on
       (meta_comes made.request told is) waits_on
   message_comes made target from (payload.Reply number file content) is =
-      either_held held (stage.Waiting waited until) (number == made.number) (waiting.reply_to held made.request target from content) waiting.waits_on (at made.request is) waits_on
-    where
-      at : (r : Request) → IsToServer r → ComesHeld held (stage.Waiting waited until) (waiting.reply_to held r target from content)
-      at (request.Meta user group asked) to = waits_on
-      at (request.Replicated capability asked) to = absurd to
-      at (request.Striped capability asked) to = absurd to
-      at (request.Registry asked) to = absurd to
+      either_held held (stage.Waiting waited until) (number == made.number) (waiting.reply_to held made.request target from content) waiting.waits_on
+      (reply_comes made.request target from content is) waits_on
   message_comes made target from (payload.RegistryReply number told) is =
-      either_held held (stage.Waiting waited until) (number == made.number && from.0 == target.0) (waiting.registry_comes made.request told) waiting.waits_on (at made.request is) waits_on
-    where
-      at : (r : Request) → IsToServer r → ComesHeld held (stage.Waiting waited until) (waiting.registry_comes r told)
-      at (request.Meta user group asked) to = waits_on
-      at (request.Replicated capability asked) to = absurd to
-      at (request.Striped capability asked) to = absurd to
-      at (request.Registry asked) to = absurd to
+      either_held held (stage.Waiting waited until) (number == made.number && from.0 == target.0) (waiting.registry_comes made.request told) waiting.waits_on
+      (registry_comes made.request told is) waits_on
   message_comes made target from _ is = waits_on
 
   event_comes : (now : ℕ) (made : MadeCall) (target : NodeId) (deadline : ℕ) (happens : Event) → IsToServer made.request
@@ -161,16 +165,16 @@ module _ (node : NodeId) (times : TimeSettings) where
   unfolding rows.stepped
   stepped_held c reading happens is = goes_with c reading happens c.made refl is
 
+  first_held : (held : Held) (deadline : ℕ) (r : Request) → IsToServer r → StageHeld held (first_stage deadline r)
+  first_held held deadline (request.Meta user group asked) to = tt
+  first_held held deadline (request.Replicated capability asked) to = absurd to
+  first_held held deadline (request.Striped capability asked) to = absurd to
+  first_held held deadline (request.Registry asked) to = absurd to
+
   repeated_held : (c : WholeClient) (reading : ℕ) (o : Option MadeCall) → LastHeld c.held o
       → LastHeld (rows.repeated node times c reading o).state.held (rows.repeated node times c reading o).state.made
   repeated_held c reading None is = absurd is
-  repeated_held c reading (Some made) is = record { asks = is.asks; far = at made.request is.asks }
-    where
-      at : (r : Request) → IsToServer r → StageHeld c.held (first_stage (rows.clock_of c reading + times.lease) r)
-      at (request.Meta user group asked) to = tt
-      at (request.Replicated capability asked) to = absurd to
-      at (request.Striped capability asked) to = absurd to
-      at (request.Registry asked) to = absurd to
+  repeated_held c reading (Some made) is = record { asks = is.asks; far = first_held c.held (rows.clock_of c reading + times.lease) made.request is.asks }
 
   again_held : (c : WholeClient) (reading : ℕ) → LastHeld c.held c.made
       → LastHeld (rows.called_again node times c reading).state.held (rows.called_again node times c reading).state.made

@@ -1,7 +1,7 @@
 -- a replica that is made is the only one of its store, and holds nothing yet
-use Rattle.std.proofs.Common.{◌≡◌, ◌≢◌, ℕ, List, [], ◌∷◌, ◌++◌, inl, inr, refl, ap, sym, ◌∙◌, subst, Option, Some, None, Bool, true, false}
-use Rattle.std.specs.Prelude.{if◌then◌else◌, ◌&&◌}
-use Rattle.std.specs.List.{AllByRecursion}
+use Rattle.std.proofs.Common.{◌≡◌, ◌≢◌, ℕ, List, [], ◌∷◌, ◌++◌, refl, ap, sym, ◌∙◌, subst, Option, Some, None, Bool, true, false}
+use Rattle.std.specs.Prelude.{if◌then◌else◌, ◌&&◌, ◌==◌}
+use Rattle.std.specs.List.{AllByRecursion, cons_option, fold}
 use Rattle.std.proofs.lemmas.List.Elements.{recursion_from_All}
 use Rattle.disk_model.specs.declared.disk.Disk.{Ghosts}
 use Rattle.xt_base.specs.declared.ids.FileId.{FileId}
@@ -12,7 +12,8 @@ use Rattle.xt_messages.specs.declared.record.Record.TheVariants as kept
 use Rattle.xt_messages.specs.declared.record.FileRow.{FileRow}
 use Rattle.xt_messages.specs.declared.record.Folded.{Folded}
 use Rattle.xt_protocol.specs.FileIds.{is_file, is_before}
-use Rattle.xt_protocol.specs.Folds.{row_in, with_row, folded_after, fold_of, file_of, body_put, newer, body_after, body_kept}
+use Rattle.xt_protocol.specs.Folds.{row_in, with_row, folded_after, fold_of, file_of, makes_body, body_put, newer, body_after, body_kept}
+use Rattle.xt_protocol.specs.Stamps.{is_stamp}
 use Rattle.xt_protocol.proofs.Folds.{file-equal, file-itself, row_in-with_row, row_in-file, fold_of-append, body_kept-append}
 use Rattle.replica_records.specs.Known.{known_of}
 use Rattle.object_store.specs.declared.store.Store.{Store}
@@ -24,52 +25,80 @@ use Rattle.ronly_replica.specs.Pins.{pinned_version, pinned_head, view_of, head_
 use Rattle.ronly_replica.specs.Making.{pins_in, both_of, IsMade}
 use Rattle.ronly_replica.specs.Access as replica
 
--- ---- a row more among rows without a place
+-- ---- a row more
+
+with_same : (r : FileRow) (rs : List FileRow) (row : FileRow) → is_file r.file row.file ≡ true → with_row (r ∷ rs) row ≡ row ∷ rs
+unfolding with_row
+with_same r rs row same = ap (λ b. if b then row ∷ rs else if is_before row.file r.file then row ∷ r ∷ rs else r ∷ with_row rs row) same
+
+with_before : (r : FileRow) (rs : List FileRow) (row : FileRow) → is_file r.file row.file ≡ false → is_before row.file r.file ≡ true → with_row (r ∷ rs) row ≡ row ∷ r ∷ rs
+unfolding with_row
+with_before r rs row other before =
+    ap (λ b. if b then row ∷ rs else if is_before row.file r.file then row ∷ r ∷ rs else r ∷ with_row rs row) other
+    ∙ ap (λ b. if b then row ∷ r ∷ rs else r ∷ with_row rs row) before
+
+with_later : (r : FileRow) (rs : List FileRow) (row : FileRow) → is_file r.file row.file ≡ false → is_before row.file r.file ≡ false → with_row (r ∷ rs) row ≡ r ∷ with_row rs row
+unfolding with_row
+with_later r rs row other later =
+    ap (λ b. if b then row ∷ rs else if is_before row.file r.file then row ∷ r ∷ rs else r ∷ with_row rs row) other
+    ∙ ap (λ b. if b then row ∷ r ∷ rs else r ∷ with_row rs row) later
+
+with_first : (row : FileRow) → with_row [] row ≡ row ∷ []
+unfolding with_row
+with_first row = refl
 
 -- a row with a place, among others of which none has one
 no_more : (row : FileRow) (pin : Pin) (rest : List FileRow) → pin_of row ≡ Some pin → pins_of rest ≡ [] → pins_of (row ∷ rest) ≡ pin ∷ []
-no_more row pin rest is none = rw (is, none) refl
+no_more row pin rest is none = ap (λ o. cons_option o (pins_of rest)) is ∙ ap (λ ps. pin ∷ ps) none
 
--- the first of rows of which none has a place
+no_cons : (pin : Pin) (pins : List Pin) → pin ∷ pins ≡ [] → ⊥
+no_cons pin pins h = cc
+
+-- of rows of which none has a place
 first_none : (row : FileRow) (rest : List FileRow) → pins_of (row ∷ rest) ≡ [] → (pin_of row ≡ None) × (pins_of rest ≡ [])
-first_none row rest none = at (pin_of row) refl none
+first_none row rest none = at (pin_of row) refl
   where
-    at : (o : Option Pin) → pin_of row ≡ o → pins_of (row ∷ rest) ≡ [] → (pin_of row ≡ None) × (pins_of rest ≡ [])
-    at None is h = (is, rw is h)
-    at (Some pin) is h = absurd cc
+    at : (o : Option Pin) → pin_of row ≡ o → (pin_of row ≡ None) × (pins_of rest ≡ [])
+    at None is = (is, subst (λ o. cons_option o (pins_of rest) ≡ []) is none)
+    at (Some pin) is = absurd (no_cons pin (pins_of rest) (subst (λ o. cons_option o (pins_of rest) ≡ []) is none))
 
 one_pin : (rows : List FileRow) (row : FileRow) (pin : Pin) → pins_of rows ≡ [] → pin_of row ≡ Some pin → pins_of (with_row rows row) ≡ pin ∷ []
-unfolding with_row
-one_pin [] row pin none is = no_more row pin [] is refl
-one_pin (r ∷ rs) row pin none is = at (is_file r.file row.file) (is_before row.file r.file)
+one_pin [] row pin none is = ap pins_of (with_first row) ∙ no_more row pin [] is refl
+one_pin (r ∷ rs) row pin none is =
+    let others = first_none r rs none in
+    at others.0 others.1 (one_pin rs row pin others.1 is) (is_file r.file row.file) (is_before row.file r.file) refl refl
   where
-    others = first_none r rs none
-
-    at : (same before : Bool) → pins_of (if same then row ∷ rs else if before then row ∷ r ∷ rs else r ∷ with_row rs row) ≡ pin ∷ []
-    at true before = no_more row pin rs is others.1
-    at false true = no_more row pin (r ∷ rs) is none
-    at false false = rw (others.0) (one_pin rs row pin others.1 is)
+    at : pin_of r ≡ None → pins_of rs ≡ [] → pins_of (with_row rs row) ≡ pin ∷ [] → (same before : Bool) → is_file r.file row.file ≡ same → is_before row.file r.file ≡ before
+        → pins_of (with_row (r ∷ rs) row) ≡ pin ∷ []
+    at first rest later true before equal earlier = ap pins_of (with_same r rs row equal) ∙ no_more row pin rs is rest
+    at first rest later false true equal earlier = ap pins_of (with_before r rs row equal earlier) ∙ no_more row pin (r ∷ rs) is none
+    at first rest later false false equal earlier =
+        ap pins_of (with_later r rs row equal earlier) ∙ ap (λ o. cons_option o (pins_of (with_row rs row))) first ∙ later
 
 -- a row that takes the place of one of its file
 put_twice : (rows : List FileRow) (one two : FileRow) → one.file ≡ two.file → with_row (with_row rows one) two ≡ with_row rows two
-unfolding with_row
-put_twice [] one two same = rw (ap (λ f. is_file f two.file) same ∙ file-itself two.file) refl
-put_twice (r ∷ rs) one two same = at (is_file r.file two.file) (is_before two.file r.file) refl refl
+put_twice [] one two same =
+    ap (λ rows. with_row rows two) (with_first one) ∙ with_same one [] two (ap (λ f. is_file f two.file) same ∙ file-itself two.file) ∙ sym (with_first two)
+put_twice (r ∷ rs) one two same = at (put_twice rs one two same) (is_file r.file two.file) (is_before two.file r.file) refl refl
   where
     here : is_file one.file two.file ≡ true
     here = ap (λ f. is_file f two.file) same ∙ file-itself two.file
 
     first : is_file r.file one.file ≡ is_file r.file two.file
-    first = ap (is_file r.file) same
+    first = ap (λ f. is_file r.file f) same
 
     second : is_before one.file r.file ≡ is_before two.file r.file
     second = ap (λ f. is_before f r.file) same
 
-    at : (equal before : Bool) → is_file r.file two.file ≡ equal → is_before two.file r.file ≡ before
+    at : with_row (with_row rs one) two ≡ with_row rs two → (equal before : Bool) → is_file r.file two.file ≡ equal → is_before two.file r.file ≡ before
         → with_row (with_row (r ∷ rs) one) two ≡ with_row (r ∷ rs) two
-    at true before is later = rw (first, is, here) refl
-    at false true is later = rw (first, is, second, later, here) refl
-    at false false is later = rw (first, is, second, later, is, later) (ap (λ l. r ∷ l) (put_twice rs one two same))
+    at rest true before is later =
+        ap (λ rows. with_row rows two) (with_same r rs one (first ∙ is)) ∙ with_same one rs two here ∙ sym (with_same r rs two is)
+    at rest false true is later =
+        ap (λ rows. with_row rows two) (with_before r rs one (first ∙ is) (second ∙ later)) ∙ with_same one (r ∷ rs) two here ∙ sym (with_before r rs two is later)
+    at rest false false is later =
+        ap (λ rows. with_row rows two) (with_later r rs one (first ∙ is) (second ∙ later)) ∙ with_later r (with_row rs one) two is later
+        ∙ ap (λ rows. r ∷ rows) rest ∙ sym (with_later r rs two is later)
 
 -- ---- the records of a pin
 
@@ -102,28 +131,27 @@ alone pin records none = ap (λ (f : Folded). pins_of f.files) (fold_of-append r
 
 -- ---- held objects
 
+not_its : (f file : FileId) → Some f ≢ Some file → is_file f file ≡ false
+not_its f file other = at (is_file f file) refl
+  where
+    at : (b : Bool) → is_file f file ≡ b → is_file f file ≡ false
+    at true is = absurd (other (ap Some (file-equal f file is)))
+    at false is = is
+
+outside : (a b : Bool) (bytes : List ℕ) → a ≡ false → (if a && b then Some bytes else None) ≡ None
+outside true b bytes h = absurd cc
+outside false b bytes h = refl
+
+outside_all : (a b c : Bool) (bytes : List ℕ) → a ≡ false → (if a && b && c then Some bytes else None) ≡ None
+outside_all true b c bytes h = absurd cc
+outside_all false b c bytes h = refl
+
 -- a record that isn't of a file puts no body of it
 no_body : (file : FileId) (object : ℕ) (version : Stamp) (rec : Record) → file_of rec ≢ Some file → body_put file object version rec ≡ None
-no_body file object version (kept.Update f update) other = outside (is_file f file) refl
-  where
-    outside : (b : Bool) → is_file f file ≡ b → body_put file object version (kept.Update f update) ≡ None
-    outside true is = absurd (other (ap Some (file-equal f file is)))
-    outside false is = rw is refl
-no_body file object version (kept.Stage f o v bytes) other = outside (is_file f file) refl
-  where
-    outside : (b : Bool) → is_file f file ≡ b → body_put file object version (kept.Stage f o v bytes) ≡ None
-    outside true is = absurd (other (ap Some (file-equal f file is)))
-    outside false is = rw is refl
-no_body file object version (kept.OldUpdate f update) other = outside (is_file f file) refl
-  where
-    outside : (b : Bool) → is_file f file ≡ b → body_put file object version (kept.OldUpdate f update) ≡ None
-    outside true is = absurd (other (ap Some (file-equal f file is)))
-    outside false is = rw is refl
-no_body file object version (kept.OldStage f o v bytes) other = outside (is_file f file) refl
-  where
-    outside : (b : Bool) → is_file f file ≡ b → body_put file object version (kept.OldStage f o v bytes) ≡ None
-    outside true is = absurd (other (ap Some (file-equal f file is)))
-    outside false is = rw is refl
+no_body file object version (kept.Update f update) other = outside (is_file f file) (makes_body update object version) update.body (not_its f file other)
+no_body file object version (kept.Stage f o v bytes) other = outside_all (is_file f file) (o == object) (is_stamp v version) bytes (not_its f file other)
+no_body file object version (kept.OldUpdate f update) other = outside (is_file f file) (makes_body update object version) update.body (not_its f file other)
+no_body file object version (kept.OldStage f o v bytes) other = outside_all (is_file f file) (o == object) (is_stamp v version) bytes (not_its f file other)
 no_body file object version (kept.Promise f epoch) other = refl
 no_body file object version (kept.Head f head) other = refl
 no_body file object version (kept.View f location) other = refl
@@ -143,7 +171,8 @@ none_put : (file : FileId) (object : ℕ) (version : Stamp) (records : List Reco
     → body_kept records file object version ≡ None
 unfolding body_kept
 none_put file object version [] all = refl
-none_put file object version (r ∷ rs) all = rw (no_body file object version r all.0) (none_put file object version rs all.1)
+none_put file object version (r ∷ rs) all =
+    ap (λ o. fold (body_after file object version) (newer None o) rs) (no_body file object version r all.0) ∙ none_put file object version rs all.1
 
 fresh : (pin : Pin) (records : List Record) → Lacks pin.file records → (object : ℕ) → held_in pin (records ++ both_of pin) object ≡ None
 fresh pin records lacks object =
