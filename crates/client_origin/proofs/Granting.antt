@@ -31,7 +31,7 @@ use Rattle.client_rows.specs.declared.requests.Request.TheVariants as request
 use Rattle.client_rows.specs.declared.requests.Stage.{Stage}
 use Rattle.client_rows.specs.declared.requests.Stage.TheVariants as stage
 use Rattle.client_rows.specs.Holding.{Held, held_of, holds}
-use Rattle.client_rows.specs.Requests.{first_stage}
+use Rattle.client_rows.specs.Requests.{first_stage, request_of}
 use Rattle.client_rows.specs.Rows as rows
 use Rattle.client_rows.specs.Rows.{WholeClient}
 use Rattle.client_rows.specs.Waiting as waiting
@@ -186,7 +186,10 @@ module _ (node : NodeId) (times : TimeSettings) where
   unfolding rows.called
   called_held c reading user group asked room =
       let left : nat_lt c.replicas.next COUNTS ≡ true = grind (arith, nat_tests) in
-      rw left (record { asks = tt; far = tt })
+      let made = call.Meta user group asked in
+      subst
+      (λ b. let step = if b then rows.asked_for node times c reading made (request_of c.held made) else rows.passes c reading in LastHeld step.state.held step.state.made) (sym left)
+      (record { asks = tt; far = tt })
 
 -- ---- all that comes of the call
 

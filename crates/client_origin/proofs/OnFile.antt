@@ -1,6 +1,6 @@
 -- A call on the content of a file ends in an answer, without one or in a refusal, and what is held of the file stays held under its
 -- capability: over each row of a client, and so over all that comes of the call.
-use Rattle.std.proofs.Common.{◌≡◌, ◌≢◌, ℕ, ◌<◌, ◌^◌, List, Bool, true, false, refl, ap, sym, ◌∙◌, subst, arith, Option, Some, None, cond}
+use Rattle.std.proofs.Common.{◌≡◌, ◌≢◌, ℕ, ◌+◌, ◌<◌, ◌^◌, List, Bool, true, false, refl, ap, sym, ◌∙◌, subst, arith, Option, Some, None, cond}
 use Rattle.std.specs.Prelude.{◌==◌, ◌&&◌, nat_le, nat_lt, if◌then◌else◌, is_some, IsTrue}
 use Rattle.std.proofs.lemmas.Bool.Decides.{nat_tests}
 use Rattle.xt_base.specs.TimeSettings.{TimeSettings}
@@ -246,10 +246,11 @@ module _ (node : NodeId) (times : TimeSettings) (held : Held) where
   goes_on c reading happens made (stage.Waiting target deadline) here at is =
       let now = rows.clock_of c reading in
       let on : IsCallOnFile made = subst IsLastOnFile here is.last in
+      let goes = waiting.event_comes now c.held made target deadline happens in
       let comes = event_comes now c.held made target deadline happens on.asks in
       record {
-        last = record { asks = on.asks; far = stage_on_file _ made.stage _ on.far comes.goes };
-        same = λ n. same_learnt c.held _ comes.learns n ∙ is.same n;
+        last = record { asks = on.asks; far = stage_on_file (now + times.lease) made.stage goes.next on.far comes.goes };
+        same = λ n. same_learnt c.held goes.learnt comes.learns n ∙ is.same n;
       }
   goes_on c reading happens made (stage.Ended how) here at is = record { last = is.last; same = is.same }
 
@@ -271,7 +272,7 @@ module _ (node : NodeId) (times : TimeSettings) (held : Held) where
 
   repeated_stays : (c : WholeClient) (reading : ℕ) (o : Option MadeCall) → IsLastOnFile o → Stays held c → Stays held (rows.repeated node times c reading o).state
   repeated_stays c reading None last is = absurd last
-  repeated_stays c reading (Some made) last is = record { last = record { asks = last.asks; far = first_far _ made.request }; same = is.same }
+  repeated_stays c reading (Some made) last is = record { last = record { asks = last.asks; far = first_far (rows.clock_of c reading + times.lease) made.request }; same = is.same }
 
   -- the call is made again
   again_stays : (c : WholeClient) (reading : ℕ) → Stays held c → Stays held (rows.called_again node times c reading).state
@@ -289,7 +290,7 @@ asked_stays node times c reading file object len None some = absurd cc
 asked_stays node times c reading file object len (Some h) some =
     let asked = on_file h.capability.location.kind h.capability (op.Read object 0 len) in
     record {
-      last = record { asks = asked_on_file h.capability.location.kind h.capability (op.Read object 0 len); far = first_far node times c.held _ asked };
+      last = record { asks = asked_on_file h.capability.location.kind h.capability (op.Read object 0 len); far = first_far node times c.held (rows.clock_of c reading + times.lease) asked };
       same = λ n. refl;
     }
 
@@ -298,7 +299,9 @@ called_stays : (node : NodeId) (times : TimeSettings) (c : WholeClient) (reading
 unfolding rows.called
 called_stays node times c reading file object len some room =
     let left : nat_lt c.replicas.next COUNTS ≡ true = grind (arith, nat_tests) in
-    rw left (asked_stays node times c reading file object len (held_of c.held file) some)
+    let asked = call.Read file object 0 len in
+    subst (λ b. Stays c.held (if b then rows.asked_for node times c reading asked (request_of c.held asked) else rows.passes c reading).state) (sym left)
+    (asked_stays node times c reading file object len (held_of c.held file) some)
 
 -- ---- all that comes of the call
 
