@@ -1,2 +1,3 @@
 pub mod Viewed
 pub mod Calls
+pub mod Listed
