@@ -1,5 +1,5 @@
 -- a replica that is made is the only one of its store, and holds nothing yet
-use Rattle.std.proofs.Common.{◌≡◌, ◌≢◌, ℕ, List, [], ◌∷◌, ◌++◌, refl, ap, sym, ◌∙◌, subst, Option, Some, None, Bool, true, false}
+use Rattle.std.proofs.Common.{◌≡◌, ◌≢◌, ℕ, ◌+◌, inl, inr, List, [], ◌∷◌, ◌++◌, length, arith, refl, ap, sym, ◌∙◌, subst, Option, Some, None, Bool, true, false}
 use Rattle.std.specs.Prelude.{if◌then◌else◌, ◌&&◌, ◌==◌}
 use Rattle.std.specs.List.{AllByRecursion, cons_option, fold}
 use Rattle.std.proofs.lemmas.List.Elements.{recursion_from_All}
@@ -18,11 +18,14 @@ use Rattle.xt_protocol.proofs.Folds.{file-equal, file-itself, row_in-with_row, r
 use Rattle.replica_records.specs.Known.{known_of}
 use Rattle.object_store.specs.declared.store.Store.{Store}
 use Rattle.object_store.specs.Access as store
+use Rattle.object_store.specs.declared.waiting.Waiting.{Waiting}
 use Rattle.object_store.specs.Puts.{ArePut}
+use Rattle.object_store.specs.Waits.{CanBePut, IsOverLimit, IsStaged, end_with, recs_of}
+use Rattle.replica_records.specs.RecordText.{record_text}
 use Rattle.ronly_replica.specs.declared.pin.Pin.{Pin}
 use Rattle.ronly_replica.specs.declared.replica.Ronly.{Ronly}
 use Rattle.ronly_replica.specs.Pins.{pinned_version, pinned_head, view_of, head_of, pin_at, pin_of, pins_of, held_in, Lacks}
-use Rattle.ronly_replica.specs.Making.{pins_in, both_of, IsMade}
+use Rattle.ronly_replica.specs.Making.{pins_in, both_of, IsMade, HasNoRoomFor}
 use Rattle.ronly_replica.specs.Access as replica
 
 -- ---- a row more
@@ -178,6 +181,36 @@ fresh : (pin : Pin) (records : List Record) → Lacks pin.file records → (obje
 fresh pin records lacks object =
     body_kept-append records (both_of pin) pin.file object (pinned_version pin.count)
     ∙ none_put pin.file object (pinned_version pin.count) records (recursion_from_All (λ rec. file_of rec ≢ Some pin.file) records lacks)
+
+-- ---- records that wait
+
+module _ {D : Type 0} {g : Ghosts D} (old : Store D g) (pin : Pin) where
+  -- nothing waits yet
+  pub none_can : (waiting : Waiting) → recs_of waiting ≡ [] → CanBePut old (recs_of waiting)
+  none_can waiting is = subst (CanBePut old) (sym is) (record { placed = tt; room = omega arith })
+
+  -- both records wait
+  pub both_wait : (first second third : Waiting) → recs_of first ≡ [] → IsStaged old first (view_of pin) second → IsStaged old second (head_of pin) third
+      → (recs_of third ≡ both_of pin) × CanBePut old (both_of pin)
+  both_wait first second third none one two =
+      let both : recs_of third ≡ both_of pin
+      = two.recs ∙ ap (λ rs. rs ++ head_of pin ∷ []) (one.recs ∙ ap (λ rs. rs ++ view_of pin ∷ []) none) in (
+        both,
+        subst (CanBePut old) both two.can,
+      )
+
+  -- there is no room for the first one
+  pub first_full : (first : Waiting) (need limit : ℕ) → recs_of first ≡ [] → IsOverLimit old (end_with old (recs_of first) + (6 + length (record_text (view_of pin)))) need limit
+      → HasNoRoomFor old pin need limit
+  first_full first need limit none over =
+      inl (subst (λ rs. IsOverLimit old (end_with old rs + (6 + length (record_text (view_of pin)))) need limit) none over)
+
+  -- or for both
+  pub second_full : (first second : Waiting) (need limit : ℕ) → recs_of first ≡ [] → IsStaged old first (view_of pin) second
+      → IsOverLimit old (end_with old (recs_of second) + (6 + length (record_text (head_of pin)))) need limit → HasNoRoomFor old pin need limit
+  second_full first second need limit none one over =
+      inr (subst (λ rs. IsOverLimit old (end_with old rs + (6 + length (record_text (head_of pin)))) need limit)
+      (one.recs ∙ ap (λ rs. rs ++ view_of pin ∷ []) none) over)
 
 -- ---- the whole
 
