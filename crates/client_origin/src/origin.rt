@@ -1,14 +1,10 @@
-ghost use Rattle.std.specs.Prelude.{◌≡◌};
-ghost use Rattle.client_origin.specs.Fetching.{stripe_in};
-
-use crate::fetched::{fault_of, fetched_by};
+use crate::fetching::fetch;
 use client_core::Client;
 use client_loop::Driver;
 use node_links::{Clock, Link};
 use ronly_replica::{Fetched, Origin, OriginErr};
 use std::alloc::Global;
 use xt_base::FileId;
-use xt_messages::Call;
 
 /// The OSDs of a file, which a client asks over a link.
 #[derive(Drop)]
@@ -20,16 +16,6 @@ pub struct ClientOrigin<'a, L, C> {
     clock: &'a mut C,
     file: FileId,
     tries: u32,
-}
-
-/// How long an object of a file is at most, by the capability that a client holds for it.
-fn stripe_of(client: &Client, file: &FileId) -> u32
-    ensures { result ≡ stripe_in client.now file.now }
-{
-    match client.held(file.number) {
-        Some(capability) => capability.location.stripe,
-        None => 0,
-    }
 }
 
 impl<'a, L, C> ClientOrigin<'a, L, C> {
@@ -95,23 +81,15 @@ impl<'a, L: Link, C: Clock> Origin for ClientOrigin<'a, L, C> {
         ∷ o.clock.ghost_name ∷ [] };
 
     fn fetch(&mut self, object: u64) -> Result<Fetched, OriginErr> {
-        let stripe = stripe_of(self.client, &self.file);
-        let call = Call::Read {
-            file: self.file.number,
+        fetch(
+            self.alloc,
+            self.client,
+            self.driver,
+            self.link,
+            self.clock,
+            &self.file,
+            self.tries,
             object,
-            at: 0,
-            len: stripe,
-        };
-        match self
-            .driver
-            .carry_out(self.client, &call, self.tries, self.link, self.clock)
-        {
-            Ok(()) => {}
-            Err(error) => return Err(fault_of(error)),
-        }
-        let Some(how) = self.client.result() else {
-            unreachable!()
-        };
-        fetched_by(self.alloc, how, stripe)
+        )
     }
 }
