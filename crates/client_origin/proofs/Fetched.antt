@@ -2,6 +2,7 @@
 use Rattle.std.proofs.Common.{◌≡◌, ℕ, ◌≤◌, ◌<◌, ◌^◌, ◌×◌, inl, inr, List, [], ◌∷◌, Bool, true, false, refl, ap, sym, ◌∙◌, subst, arith, Option, Some, None}
 use Rattle.std.specs.Prelude.{is_some, IsTrue, Result, Ok, Err}
 use Rattle.std.specs.List.{AllByRecursion}
+use Rattle.std.proofs.lemmas.Bool.{cases_lt}
 use Rattle.xt_base.specs.declared.ids.FileId.{FileId}
 use Rattle.xt_messages.specs.Limits.{FitsNode, FitsCapability}
 use Rattle.xt_messages.specs.declared.file.Capability.{Capability}
@@ -60,6 +61,13 @@ read_fits client file object small ready =
     (small, omega arith, stripe.0, stripe.1)
 
 -- ---- its end
+
+-- a number is left
+pub room_left : (n : ℕ) → (2 ^ 62 ≤ n → ⊥) → n < 2 ^ 62
+room_left n none = elim (cases_lt n (2 ^ 62)) as (λ w. n < 2 ^ 62) [
+  | inl lt ↦ lt
+  | inr ge ↦ absurd (none ge)
+]
 
 pub not_busy : (o : Option MadeCall) (how : CallResult) → rows.result_in o ≡ Some how → rows.is_busy o ≡ false
 not_busy None how is = refl

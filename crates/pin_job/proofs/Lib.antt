@@ -2,3 +2,4 @@ pub mod Viewed
 pub mod Calls
 pub mod Listed
 pub mod Jobs
+pub mod Ways
