@@ -241,9 +241,9 @@ module _ (base : Defaults) (old new : CommandSession) (before after : Around) (c
 pub ungranted_no_disk : (job : ReplicaJob) (session : CommandSession) (before after : Around) (why : Status) → EndsUngranted job session before after why → IsNoDisk why
 ungranted_no_disk job session before after why (calls.unlisted ends) =
     list_no_disk job.base session ends.listed before after ends.counts ends.now why ends.lists
-ungranted_no_disk job session before after why (calls.unasked begun lists is) = elim is [
+ungranted_no_disk job session before after why (calls.unasked fresh lists is) = elim is [
   | inl long ↦ subst IsNoDisk (sym long.1) tt
   | inr memory ↦ subst IsNoDisk (sym memory) tt
 ]
-ungranted_no_disk job session before after why (calls.ungranted between begun lists ends) = call_no_disk job begun (calls.grant_call job) between after why ends
-ungranted_no_disk job session before after why (calls.striped between begun left capability mark lists carries kind is) = subst IsNoDisk (sym is) tt
+ungranted_no_disk job session before after why (calls.ungranted between fresh lists ends) = call_no_disk job fresh (calls.grant_call job) between after why ends
+ungranted_no_disk job session before after why (calls.striped between fresh left capability mark lists carries kind is) = subst IsNoDisk (sym is) tt

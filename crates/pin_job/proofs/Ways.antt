@@ -25,8 +25,7 @@ use Rattle.ronly_replica.specs.Pins.{objects_of}
 use Rattle.client_origin.specs.Fetching.{OriginView, FetchesOver}
 use Rattle.pin_job.specs.declared.job.ReplicaJob.{ReplicaJob}
 use Rattle.pin_job.specs.Calls.{IsQuiet, HasOpened, HasGranted, EndsUngranted, HasProbed, CallEnds, probe_call, fetcher}
-use Rattle.pin_job.specs.Jobs as jobs
-use Rattle.pin_job.specs.Jobs.{Site, HasBegun, EndsBefore, unopened, unloaded, misplaced, ungranted, HasNone, HasPin, Fills, PinGoesOn, unprobed, unmade, made, filled, Pins, Shows, Gets}
+use Rattle.pin_job.specs.Jobs.{Site, HasBegun, EndsBefore, unopened, unloaded, misplaced, ungranted, HasNone, HasPin, Fills, PinGoesOn, unprobed, unmade, made, filled, Pins, pin_ends, pin_goes_on, Shows, Gets, get_ends, get_moved, get_reads}
 use Rattle.pin_job.specs.Made.{HasMade, CannotMake, HasFilled, HasRead}
 use Rattle.pin_job.specs.Replicas.{LeftSo, EndsUnmade, HoldsTo, ReadsTo, status_by}
 use Rattle.pin_job.specs.Stores.{StoreEnds, HasStore, HasReplica}
@@ -52,7 +51,7 @@ module _ {D : Type 0} {g : Ghosts D} (job : ReplicaJob) (full : Bool) (first : A
       → Pins (medium_of g) job full (site first disk) (site last closed) why
   pin_ungranted last closed why same ends =
       subst (λ d. Pins (medium_of g) job full (site first disk) (site last d) why) (sym same)
-      (jobs.ends (ungranted opened session (store.records_of empty) opens (gives (medium_of g) disk job.base.settings.limit empty has.loads) has.none ends))
+      (pin_ends (ungranted opened session (store.records_of empty) opens (gives (medium_of g) disk job.base.settings.limit empty has.loads) has.none ends))
 
   module _ (granted : Around) (left : CommandSession) (capability : Capability) (grants : HasGranted job session opened granted left capability) where
     begun : HasBegun (medium_of g) job HasNone (site first disk) (site granted (store.disk_of empty)) (store.records_of empty) left capability
@@ -67,7 +66,7 @@ module _ {D : Type 0} {g : Ghosts D} (job : ReplicaJob) (full : Bool) (first : A
 
     goes : (last : Around) (closed : D) (why : Status) → PinGoesOn (medium_of g) job full (store.records_of empty) left capability (site granted (store.disk_of empty)) (site last closed) why
         → Pins (medium_of g) job full (site first disk) (site last closed) why
-    goes last closed why rest = jobs.goes_on (site granted (store.disk_of empty)) (store.records_of empty) left capability begun rest
+    goes last closed why rest = pin_goes_on (site granted (store.disk_of empty)) (store.records_of empty) left capability begun rest
 
     -- the first byte isn't read
     pub pin_unprobed : (last : Around) (closed : D) (why : Status) → closed ≡ store.disk_of empty → CallEnds job left (probe_call capability) granted last why
@@ -124,7 +123,7 @@ module _ {D : Type 0} {g : Ghosts D} (job : ReplicaJob) (range : Option (ℕ × 
       → Gets (medium_of g) job range (site first disk) (site last closed) (Err why)
   get_ungranted last closed why same ends =
       subst (λ d. Gets (medium_of g) job range (site first disk) (site last d) (Err why)) (sym same)
-      (jobs.ends why (ungranted opened session (records_of replica) opens (gives (medium_of g) disk job.base.settings.limit (store_of replica) has.loads) (pin_of replica, has.alone) ends))
+      (get_ends why (ungranted opened session (records_of replica) opens (gives (medium_of g) disk job.base.settings.limit (store_of replica) has.loads) (pin_of replica, has.alone) ends))
 
   module _ (granted : Around) (left : CommandSession) (capability : Capability) (grants : HasGranted job session opened granted left capability) where
     begun_with : HasBegun (medium_of g) job (HasPin (pin_of replica)) (site first disk) (site granted (disk_of replica)) (records_of replica) left capability
@@ -138,18 +137,18 @@ module _ {D : Type 0} {g : Ghosts D} (job : ReplicaJob) (range : Option (ℕ × 
     }
 
     -- the path names another file
-    pub get_moved : (closed : D) → closed ≡ disk_of replica → is_file (pin_of replica).file capability.file ≡ false
+    pub read_moved : (closed : D) → closed ≡ disk_of replica → is_file (pin_of replica).file capability.file ≡ false
         → Gets (medium_of g) job range (site first disk) (site granted closed) (Err (status.Moved 0))
-    get_moved closed same other =
+    read_moved closed same other =
         subst (λ d. Gets (medium_of g) job range (site first disk) (site granted d) (Err (status.Moved 0))) (sym same)
-        (jobs.moved (site granted (disk_of replica)) (pin_of replica) (records_of replica) left capability begun_with other refl)
+        (get_moved (site granted (disk_of replica)) (pin_of replica) (records_of replica) left capability begun_with other refl)
 
     -- the range is read
     pub get_read : (last : Around) (closed : D) (result : Result (List ℕ) Status) → is_file (pin_of replica).file capability.file ≡ true
         → HasRead (medium_of g) job left replica range granted last closed result → Gets (medium_of g) job range (site first disk) (site last closed) result
     get_read last closed result same reads =
         let limit : limit_in replica ≡ job.base.settings.limit = has.loads.room in
-        jobs.reads (site granted (disk_of replica)) (pin_of replica) (records_of replica) left capability result begun_with same
+        get_reads (site granted (disk_of replica)) (pin_of replica) (records_of replica) left capability result begun_with same
         (record {
           end = reads.end;
           around = reads.around;

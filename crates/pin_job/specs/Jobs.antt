@@ -79,8 +79,8 @@ module _ {D : Type 0} (m : Medium D) (job : ReplicaJob) where
   HasNone pins = pins ≡ []
 
   pub data Pins (full : Bool) (before after : Site D) (why : Status) : Type 0 where
-    ends : EndsBefore 0 HasNone before after why → Pins full before after why
-    goes_on : (between : Site D) (records : List Record) (session : CommandSession) (capability : Capability) → HasBegun HasNone before between records session capability
+    pin_ends : EndsBefore 0 HasNone before after why → Pins full before after why
+    pin_goes_on : (between : Site D) (records : List Record) (session : CommandSession) (capability : Capability) → HasBegun HasNone before between records session capability
         → PinGoesOn full records session capability between after why → Pins full before after why
 
   -- What `pin` does: at its end the last line of its status is put. The counts of faults rose exactly where the status reports it.
@@ -109,11 +109,11 @@ module _ {D : Type 0} (m : Medium D) (job : ReplicaJob) where
 
   -- how `rget` ends: the bytes of its range, or why there are none
   pub data Gets (range : Option (ℕ × ℕ)) (before after : Site D) : Result (List ℕ) Status → Type 0 where
-    ends : (why : Status) → EndsBefore 1 (λ pins. (pin : Pin) × HasPin pin pins) before after why → Gets range before after (Err why)
-    moved : (between : Site D) (pin : Pin) (records : List Record) (session : CommandSession) (capability : Capability)
+    get_ends : (why : Status) → EndsBefore 1 (λ pins. (pin : Pin) × HasPin pin pins) before after why → Gets range before after (Err why)
+    get_moved : (between : Site D) (pin : Pin) (records : List Record) (session : CommandSession) (capability : Capability)
         → HasBegun (HasPin pin) before between records session capability → is_file pin.file capability.file ≡ false → after ≡ between
         → Gets range before after (Err (status.Moved 0))
-    reads : (between : Site D) (pin : Pin) (records : List Record) (session : CommandSession) (capability : Capability) (result : Result (List ℕ) Status)
+    get_reads : (between : Site D) (pin : Pin) (records : List Record) (session : CommandSession) (capability : Capability) (result : Result (List ℕ) Status)
         → HasBegun (HasPin pin) before between records session capability → is_file pin.file capability.file ≡ true
         → Shows job.base.settings.limit pin records (fetcher session between.around) between after range result → Gets range before after result
 
