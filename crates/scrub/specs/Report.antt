@@ -1,5 +1,5 @@
 -- what a scrub finds of each body: one item after the other
-use Rattle.std.specs.Prelude.{ℕ, Bool, true, false, if◌then◌else◌, Option, Some, None, List, [], ◌∷◌, map}
+use Rattle.std.specs.Prelude.{ℕ, Bool, true, false, if◌then◌else◌, Option, Some, None, List, [], ◌∷◌, ◌++◌, map}
 use Rattle.std.specs.Str.{bytes_eq}
 use Rattle.sha2.specs.Sha256.{sha256}
 use Rattle.xt_messages.specs.declared.record.Record.{Record}
@@ -50,6 +50,12 @@ abbrev pub seals_for : Item → Found → List Record
 seals_for item (found.New digest) = kept.Seal item.file item.object item.version digest ∷ []
 seals_for item found.Good = []
 seals_for item found.Damaged = []
+
+-- those of items of which this is the report, in order
+abbrev pub seals_of : List Item → List Found → List Record
+seals_of [] report = []
+seals_of (item ∷ items) [] = []
+seals_of (item ∷ items) (found ∷ report) = seals_for item found ++ seals_of items report
 
 -- whether the digest of these bytes is the one that was kept
 abbrev pub is_sealed_by : Option (List ℕ) → List ℕ → Bool
