@@ -48,8 +48,12 @@ fn line_of(alloc: Global, counts: &Counts) -> Result<String, OutOfMemory>
     ensures { IfOk result (λ line. string_bytes line ≡
         spec.counts_line counts.now.new counts.now.good counts.now.damaged) }
 {
-    let Counts { new, good, damaged } = *counts;
-    format!(in alloc; "new {new} good {good} damaged {damaged} mended 0\n")
+    format!(in alloc;
+        "new {} good {} damaged {} mended 0\n",
+        counts.new,
+        counts.good,
+        counts.damaged,
+    )
 }
 
 /// Why a scrub ends whose line was put.
