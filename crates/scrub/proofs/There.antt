@@ -182,11 +182,12 @@ module _ (records : List Record) (P : Item → Type 0) where
       All-cons P (item_of records file v) (map (item_of records file) vs) (each v (0, omega arith, refl))
       (of_versions file vs (λ w (k, lt, is). each w (suc k, omega arith, is)))
 
-  of_rows : (rows : List FileRow) → ((row : FileRow) → Contains rows row → All P (items_of_row records row)) → All P (flat_map (items_of_row records) rows)
-  of_rows [] each = All-nil P
-  of_rows (r ∷ rs) each =
-      All-append P (items_of_row records r) (flat_map (items_of_row records) rs) (each r (0, omega arith, refl))
-      (of_rows rs (λ row (k, lt, is). each row (suc k, omega arith, is)))
+  pub each_item : (rows : List FileRow) → ((row : FileRow) → Contains rows row → (v : ObjectVersion) → Contains row.head.versions v → P (item_of records row.file v))
+      → All P (flat_map (items_of_row records) rows)
+  each_item [] each = All-nil P
+  each_item (r ∷ rs) each =
+      All-append P (items_of_row records r) (flat_map (items_of_row records) rs) (of_versions r.file r.head.versions (each r (0, omega arith, refl)))
+      (each_item rs (λ row (k, lt, is). each row (suc k, omega arith, is)))
 
 -- the body of an item is held
 abbrev pub HoldsItem : List FileRow → Item → Type 0
@@ -195,12 +196,11 @@ HoldsItem rows item = has_version (row_in rows item.file).held (body_of item.obj
 pub items_are_held : (records : List Record) → AreInPlace nothing_kept records → All (HoldsItem (fold_of records).files) (items_of (fold_of records) records)
 unfolding items_of
 items_are_held records placed =
-    of_rows records (HoldsItem (fold_of records).files) (fold_of records).files
-    (λ row among. of_versions records (HoldsItem (fold_of records).files) row.file row.head.versions
-    (λ v named.
+    each_item records (HoldsItem (fold_of records).files) (fold_of records).files
+    (λ row among v named.
     let held : IsHeld row v = names_held records placed row among v named in
     let there : row_in (fold_of records).files row.file ≡ row = row_there (fold_of records).files (folds_rise records).files row among in
-    subst (λ (x : FileRow). IsHeld x v) (sym there) held))
+    subst (λ (x : FileRow). IsHeld x v) (sym there) held)
 
 pub bodies_are_there : BodiesAreThere
 bodies_are_there records placed =
