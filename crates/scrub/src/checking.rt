@@ -5,8 +5,8 @@ ghost use Rattle.scrub.specs.Reading.{found_in};
 
 use crate::found::{Found, found_by};
 use crate::reading::ReadItem;
-use par_halves::{Gate, map_halves};
 use body_digests::BodyDigest;
+use par_halves::{Gate, map_halves};
 use sha2::{Digest, Sha256};
 use std::alloc::Global;
 use std::thread::Threads;
