@@ -1,5 +1,6 @@
+//! What a scrub finds of stores, and what mends a body.
 use crate::stores::{REMADE, ROTTEN, STARTED, TWICE_SEALED, WRITTEN};
-use disk_model::MemoryDisk;
+use disk_model::{Disk, MemoryDisk};
 use object_store::{Reader, Store};
 use par_halves::{Gate, NoGate};
 use replica_records::fold;
@@ -14,12 +15,8 @@ use xt_journal::Journal;
 /// More bytes than any journal here has.
 const LIMIT: u64 = 1 << 30;
 
-/// The store on a disk with these bytes, none where it isn't loaded.
-fn store_on(alloc: Global, bytes: &[u8]) -> Option<Store<MemoryDisk>> {
-    let Ok(bytes) = Octets::of(alloc, bytes) else {
-        return None;
-    };
-    let disk = MemoryDisk::new(alloc, bytes, CallList::new(alloc), None);
+/// The store on a disk, none where it isn't loaded.
+fn loaded<D: Disk>(alloc: Global, disk: D) -> Option<Store<D>> {
     let Ok((journal, extents)) = Journal::load(alloc, disk, LIMIT) else {
         return None;
     };
@@ -27,6 +24,17 @@ fn store_on(alloc: Global, bytes: &[u8]) -> Option<Store<MemoryDisk>> {
         return None;
     };
     Some(store)
+}
+
+/// The store on a disk with these bytes, none where it isn't loaded.
+fn store_on(alloc: Global, bytes: &[u8]) -> Option<Store<MemoryDisk>> {
+    let Ok(bytes) = Octets::of(alloc, bytes) else {
+        return None;
+    };
+    loaded(
+        alloc,
+        MemoryDisk::new(alloc, bytes, CallList::new(alloc), None),
+    )
 }
 
 /// The bodies that a scrub of a store checks.
