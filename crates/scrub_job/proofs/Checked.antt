@@ -1,8 +1,8 @@
 -- what is found of the bodies of a store, by whoever reads them
-use Rattle.std.proofs.Common.{◌≡◌, ◌∙◌, ℕ, Bool, true, false, List, [], ◌∷◌, ◌++◌, length, map, replicate, Some, None, refl, sym, ap, subst, arith}
+use Rattle.std.proofs.Common.{◌≡◌, ◌∙◌, ℕ, Bool, true, false, List, [], ◌∷◌, ◌++◌, length, map, replicate, take, drop, Some, None, refl, sym, ap, subst, append-nil, append_assoc, arith}
 use Rattle.std.specs.Prelude.{IsTrue, Contains, flat_map}
 use Rattle.std.specs.List.{All}
-use Rattle.std.proofs.lemmas.List.Elements.{All-contains, Contains-append_right}
+use Rattle.std.proofs.lemmas.List.Elements.{All-contains, All-drop, All-take, Contains-append_right}
 use Rattle.disk_model.specs.declared.disk.Disk.{Ghosts}
 use Rattle.par_halves.proofs.Lists.{zip_both, zip_map}
 use Rattle.xt_base.specs.declared.ids.FileId.{FileId}
@@ -31,6 +31,7 @@ use Rattle.scrub.specs.Laws.{BodiesAreThere}
 use Rattle.scrub.specs.Reading.{CannotRead, HasBody}
 use Rattle.scrub.specs.Report.{body_of_item, found_of, report_of, seals_of}
 use Rattle.scrub.specs.Scrubbing.{HaveBeenScrubbed}
+use Rattle.scrub.proofs.Reports.{split_so}
 use Rattle.scrub_job.specs.Checked.{items_in, AreFound, IsFound, IsReportOn, IsThere}
 
 -- ---- records with other bodies
@@ -57,11 +58,17 @@ digests_known false records = λ i file object version.
     (λ digests rec. digests_set file object version digests (replicate (length (body_in rec)) 0) rec) [] records i
 
 -- what a store has of its records in memory has their items
-pub items_bare : (records : List Record) → items_in (bare_of records) ≡ items_in records
+items_bare : (records : List Record) → items_in (bare_of records) ≡ items_in records
 items_bare records =
     items_are (fold_of (bare_of records)) (bare_of records)
     ∙ (λ i. items_by (digests_bare records i) (fold_bare records i))
     ∙ sym (items_are (fold_of records) records)
+
+-- the items that are made of them
+pub items_told : (records given again : List Record) (folded : Folded) (items : List Item) → given ≡ bare_of records → again ≡ bare_of records → folded ≡ fold_of given
+    → items ≡ items_of folded again → items ≡ items_in records
+items_told records given again folded items one other says is =
+    is ∙ (λ i. items_of ((says ∙ ap fold_of one) i) (other i)) ∙ items_bare records
 
 -- whoever reads their bodies sees the same items
 items_known : (told : Bool) (records : List Record) → items_in (known_of told records) ≡ items_in records
@@ -108,13 +115,38 @@ module _ {D : Type 0} {g : Ghosts D} (store : Store D g) (before after : Reader 
 
 -- ---- the report
 
-pub found_none : (told : Bool) (known : List Record) → AreFound told known [] []
-found_none told known = tt
+-- It is known of the items before those that are left, whose bodies are there.
+pub record HasGoneOn (told : Bool) (known : List Record) (items rest : List Item) (report : List Found) : Type 0 where
+  pub done : List Item
+  pub split : items ≡ done ++ rest
+  pub are : AreFound told known done report
+  pub there : All (IsThere told known) rest
+
+pub gone_none : (told : Bool) (known : List Record) (items : List Item) → All (IsThere told known) items → HasGoneOn told known items items []
+gone_none told known items there = record { done = []; split = refl; are = tt; there = there }
 
 -- it goes on with the next items
-pub found_more : (told : Bool) (known : List Record) (done now : List Item) (report found : List Found) → AreFound told known done report → AreFound told known now found
-    → AreFound told known (done ++ now) (report ++ found)
-found_more told known done now report found before more = zip_both (IsFound told known) done report now found before more
+pub gone_more : (told : Bool) (known : List Record) (items rest now later : List Item) (count : ℕ) (report found : List Found) → now ≡ take count rest → later ≡ drop count rest
+    → HasGoneOn told known items rest report → AreFound told known now found → HasGoneOn told known items later (report ++ found)
+gone_more told known items rest now later count report found front back so_far more = record {
+  done = so_far.done ++ now;
+  split =
+      so_far.split ∙ ap (λ (xs : List Item). so_far.done ++ xs) (split_so rest now later count front back)
+      ∙ sym (append_assoc so_far.done now later);
+  are = zip_both (IsFound told known) so_far.done report now found so_far.are more;
+  there = subst (λ (xs : List Item). All (IsThere told known) xs) (sym back) (All-drop (IsThere told known) count rest so_far.there);
+}
+
+pub now_there : (told : Bool) (known : List Record) (items rest now : List Item) (count : ℕ) (report : List Found) → now ≡ take count rest
+    → HasGoneOn told known items rest report → All (IsThere told known) now
+now_there told known items rest now count report front so_far =
+    subst (λ (xs : List Item). All (IsThere told known) xs) (sym front) (All-take (IsThere told known) count rest so_far.there)
+
+pub gone_whole : (told : Bool) (known : List Record) (items rest : List Item) (report : List Found) → rest ≡ [] → HasGoneOn told known items rest report
+    → AreFound told known items report
+gone_whole told known items rest report none so_far =
+    subst (λ (xs : List Item). AreFound told known xs report)
+    (sym (so_far.split ∙ ap (λ (xs : List Item). so_far.done ++ xs) none ∙ append-nil so_far.done)) so_far.are
 
 -- where contracts know what the disk keeps
 found_sure : (told : Bool) (known : List Record) (items : List Item) (report : List Found) → IsTrue told → AreFound told known items report

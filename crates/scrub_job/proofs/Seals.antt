@@ -1,5 +1,5 @@
 -- the seals of new bodies: they are within their limits, and say nothing of any file
-use Rattle.std.proofs.Common.{◌≡◌, ◌∙◌, ◌<◌, ℕ, zero, suc, Bool, true, false, cond, Option, Some, None, List, [], ◌∷◌, ◌++◌, length, take, refl, sym, ap, subst, arith}
+use Rattle.std.proofs.Common.{◌≡◌, ◌∙◌, ◌<◌, ◌+◌, ℕ, zero, suc, Bool, true, false, cond, Option, Some, None, List, [], ◌∷◌, ◌++◌, length, take, get_or, append-nil, append_assoc, refl, sym, ap, subst, arith}
 use Rattle.std.specs.Prelude.{Contains, slice_index}
 use Rattle.std.specs.Str.{bytes_eq}
 use Rattle.std.specs.Int.{to_be_bytes, w32}
@@ -40,6 +40,24 @@ seal_known false _ is = absurd is
 pub seal_placed : (folded : Folded) (rec : Record) → IsSeal rec → IsInPlace folded rec
 seal_placed folded (kept.Seal file object version digest) is = tt
 seal_placed folded _ is = absurd is
+
+-- ---- they are found one after the other
+
+seals_so_far : (items : List Item) (report : List Found) (i : ℕ) (item : Item) (d : Found) → i < length items → i < length report → item ≡ get_or items i item
+    → seals_of (take (suc i) items) (take (suc i) report) ≡ seals_of (take i items) (take i report) ++ seals_for item (get_or report i d)
+seals_so_far [] report i item d inside within is = absurd (omega arith)
+seals_so_far (x ∷ xs) [] i item d inside within is = absurd (omega arith)
+seals_so_far (x ∷ xs) (y ∷ ys) zero item d inside within is = append-nil (seals_for x y) ∙ ap (λ (z : Item). seals_for z y) (sym is)
+seals_so_far (x ∷ xs) (y ∷ ys) (suc i) item d inside within is =
+    ap (λ (l : List Record). seals_for x y ++ l) (seals_so_far xs ys i item d (omega arith) (omega arith) is)
+    ∙ sym (append_assoc (seals_for x y) (seals_of (take i xs) (take i ys)) (seals_for item (get_or ys i d)))
+
+pub seals_more : (items : List Item) (report : List Found) (i : ℕ) (item : Item) (d : Found) → i < length items → length report ≡ length items → item ≡ get_or items i item
+    → seals_of (take (i + 1) items) (take (i + 1) report) ≡ seals_of (take i items) (take i report) ++ seals_for item (get_or report i d)
+seals_more items report i item d inside whole is =
+    subst (λ (n : ℕ). seals_of (take n items) (take n report) ≡ seals_of (take i items) (take i report) ++ seals_for item (get_or report i d))
+    (let same : suc i ≡ i + 1 = omega arith in same)
+    (seals_so_far items report i item d inside (omega (arith, inside, whole)) is)
 
 -- ---- they are within their limits
 
@@ -82,8 +100,8 @@ items_fit records are =
     record { which = is.which; meant = fits.which; write = fits.write })
 
 -- what is found of an item has seals within their limits
-one_fits : (told : Bool) (known : List Record) (item : Item) (found : Found) → FitsItem item → IsFound told known item found → All FitsRecord (seals_for item found)
-one_fits told known item found fits is = subst (λ (f : Found). All FitsRecord (seals_for item f)) (sym is.is) (at item.seal)
+one_fits : (told : Bool) (known : List Record) (item : Item) (f : Found) → FitsItem item → IsFound told known item f → All FitsRecord (seals_for item f)
+one_fits told known item f fits is = subst (λ (x : Found). All FitsRecord (seals_for item x)) (sym is.is) (at item.seal)
   where
     bytes : List ℕ
     bytes = body_of_item is.seen item

@@ -51,7 +51,7 @@ fn found_by<R: Threads + Sync, D: Disk, G: Gate>(
     items: &[Item],
     gate: &G,
 ) -> Result<Vec<Found>, Unread>
-    requires { All (IsThere D.is_told (records_of store.now)) items.now }
+    requires there { All (IsThere D.is_told (records_of store.now)) items.now }
     ensures { IfOk result (λ found.
         AreFound D.is_told (records_of store.now) items.now found.items) }
 {
@@ -72,7 +72,7 @@ fn report_on<R: Threads + Sync, D: Disk, G: Gate>(
     items: &[Item],
     gate: &G,
 ) -> Result<Vec<Found>, Unread>
-    requires { All (IsThere D.is_told (records_of store.now)) items.now }
+    requires there { All (IsThere D.is_told (records_of store.now)) items.now }
     ensures { IfOk result (λ report.
         AreFound D.is_told (records_of store.now) items.now report.items) }
 {
@@ -88,13 +88,13 @@ fn report_on<R: Threads + Sync, D: Disk, G: Gate>(
 }
 
 /// Checks the bodies that the heads of a store name. Nothing is written to it.
-pub fn findings<R: Threads + Sync, D: Disk, G: Gate>(
+pub fn findings_in<R: Threads + Sync, D: Disk, G: Gate>(
     rt: &R,
     alloc: Global,
     store: &Store<D>,
     gate: &G,
 ) -> Result<Findings, Unread>
-    requires { AreRecords (records_of store.now) }
+    requires records { AreRecords (records_of store.now) }
     ensures { IfOk result (HasFound D.is_told (records_of store.now)) }
 {
     loaded_bodies_are_there();

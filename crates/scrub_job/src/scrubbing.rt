@@ -7,7 +7,7 @@ ghost use Rattle.node_loop.specs.Events.{HasDiskCause};
 ghost use Rattle.node_jobs.specs.Disks.{medium, IsLoaded, IsUnloaded};
 ghost use Rattle.scrub_job.specs.Scrubbing.{EndsUnread, IsScrub, ScrubsLoaded};
 
-use crate::checking::{Findings, Unread, findings};
+use crate::checking::{Findings, Unread, findings_in};
 use crate::counting::tell;
 use crate::sealing::sealed;
 use disk_model::Disk;
@@ -74,7 +74,7 @@ fn scrub_loaded<R: Threads + Sync, K: Sink, D: Disk, G: Gate>(
     ensures { ScrubsLoaded store result.1 (K.held out.old) (K.held out.new)
         (K.fault_count out.old) (K.fault_count out.new) result.0 }
 {
-    let Findings { report, seals } = match findings(rt, alloc, &store, gate) {
+    let Findings { report, seals } = match findings_in(rt, alloc, &store, gate) {
         Ok(found) => found,
         Err(why) => return unread(store, why),
     };
