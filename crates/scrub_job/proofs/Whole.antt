@@ -18,10 +18,9 @@ use Rattle.object_store.specs.Access.{disk_of, journal_of, records_of}
 use Rattle.object_store.specs.Texts.{texts_of, AreRecords}
 use Rattle.check_job.specs.Checking.{Reports}
 use Rattle.node_runs.specs.Keeping.{KeepsPut, StandsForOne}
-use Rattle.node_runs.specs.Serving.{put_of}
 use Rattle.node_runs.proofs.Keeping.{stands_last}
 use Rattle.node_loop.specs.Events.{HasDiskCause}
-use Rattle.node_jobs.specs.Disks.{IsLoaded, IsUnloaded, Medium, StandsWith}
+use Rattle.node_jobs.specs.Disks.{IsLoaded, IsUnloaded}
 use Rattle.node_jobs.specs.Jobs.{HasSinkCause}
 use Rattle.node_jobs.proofs.Disks.{medium_of}
 use Rattle.scrub.specs.Laws.{ScrubsSayNothing}
@@ -29,7 +28,7 @@ use Rattle.scrub.specs.Report.{is_damaged, seals_of}
 use Rattle.scrub_job.specs.Checked.{items_in, HasFound}
 use Rattle.scrub_job.specs.Counts.{counts_text, status_by, status_of}
 use Rattle.scrub_job.specs.Scrubbing.{Ends, unread, unsealed, sealed, EndsUnread, IsScrub, LeavesSealed, ScrubsLoaded}
-use Rattle.scrub_job.specs.Sealing.{AreSealed, CannotSeal, EndsUnsealed, StandsSealed, with_met}
+use Rattle.scrub_job.specs.Sealing.{AreSealed, CannotSeal, EndsUnsealed, StandsSealed}
 use Rattle.scrub_job.specs.declared.checking.Findings.{Findings}
 use Rattle.scrub_job.proofs.Sealed.{none_of_them}
 use Rattle.scrub_job.proofs.Seals.{front_says}
@@ -42,12 +41,12 @@ early sink (status.DiskFault count) ends = refl
 early sink status.OutOfMemory ends = refl
 early sink _ ends = absurd ends
 
-early_put : (is_told : Bool) (super : Option Superblock) (records : List Record) (seal : Record) (limit : ℕ) (met : Option Record) (sink : ℕ) (said : Status)
-    → EndsUnsealed is_told super records seal limit met said → HasSinkCause sink sink said
-early_put is_told super records seal limit met sink (status.DiskFault count) ends = refl
-early_put is_told super records seal limit met sink (status.JournalFull need most) ends = refl
-early_put is_told super records seal limit met sink status.OutOfMemory ends = refl
-early_put is_told super records seal limit met sink _ ends = absurd ends
+early_put : (is_told : Bool) (super : Option Superblock) (records left : List Record) (limit : ℕ) (met : List Record) (sink : ℕ) (said : Status)
+    → EndsUnsealed is_told super records left limit met said → HasSinkCause sink sink said
+early_put is_told super records left limit met sink (status.DiskFault count) ends = refl
+early_put is_told super records left limit met sink (status.JournalFull need most) ends = refl
+early_put is_told super records left limit met sink status.OutOfMemory ends = refl
+early_put is_told super records left limit met sink _ ends = absurd ends
 
 -- once the line is due the disk has no fault
 no_fault : (damaged count : ℕ) (b : Bool) → status.DiskFault count ≡ cond b status.Done (status.Unmended damaged) → ⊥
@@ -61,17 +60,13 @@ late text damaged before after held later _ reports same = same
 
 -- ---- which seals can be on the disk
 
-with_one : (put rest : List Record) (seal : Record) (met : Option Record) → met ≡ Some seal → (others : List Record) × (put ++ seal ∷ rest ≡ with_met put met ++ others)
-with_one put rest seal met is = (rest, sym (append_assoc put (seal ∷ []) rest) ∙ ap (λ (m : Option Record). with_met put m ++ rest) (sym is))
-
--- the seals so far, with the one that can be there, are the first of them
-met_split : (is_told : Bool) (super : Option Superblock) (records : List Record) (seal : Record) (limit : ℕ) (met : Option Record) (said : Status) (put rest : List Record)
-    → EndsUnsealed is_told super records seal limit met said → (others : List Record) × (put ++ seal ∷ rest ≡ with_met put met ++ others)
-met_split is_told super records seal limit met (status.DiskFault count) put rest is = with_one put rest seal met is
-met_split is_told super records seal limit met status.OutOfMemory put rest is = with_one put rest seal met is
-met_split is_told super records seal limit met (status.JournalFull need most) put rest is =
-    (seal ∷ rest, ap (λ (m : Option Record). with_met put m ++ seal ∷ rest) (sym is.0))
-met_split is_told super records seal limit met _ put rest is = absurd is
+-- those that were being put are the first of those that are left
+met_first : (is_told : Bool) (super : Option Superblock) (records left : List Record) (limit : ℕ) (met : List Record) (said : Status)
+    → EndsUnsealed is_told super records left limit met said → (rest : List Record) × (left ≡ met ++ rest)
+met_first is_told super records left limit met (status.DiskFault count) (some, first) = first
+met_first is_told super records left limit met status.OutOfMemory first = first
+met_first is_told super records left limit met (status.JournalFull need most) (none, full) = (left, ap (λ (m : List Record). m ++ left) (sym none))
+met_first is_told super records left limit met _ no_way = absurd no_way
 
 -- ---- a store that was loaded
 
@@ -90,14 +85,15 @@ module _ {D : Type 0} {g : Ghosts D} (store : Store D g) (held : Option (List �
       → ScrubsLoaded store after held held sink sink said
   scrubs_unread after said why cause keeps counts_now = record {
     put = [];
-    met = None;
+    met = [];
     ends = unread refl refl why refl;
     each = λ told.
         weaker g.moment g.left_since (disk_of store) after (StandsForOne (records ∷ records ∷ [])) (LeavesSealed records []) (keeps told)
         (λ image. ⊎_elim (same_so image) (⊎_elim (same_so image) (λ none. absurd none)));
     last = λ told image is.
-        subst (λ (rs : List Record). StandsWith rs None image) (sym (append-nil records))
-        (stands_last g.is_told g.kept g.moment g.left_since (disk_of store) after records None counts_now keeps told image is);
+        let stands = ⊎_elim (λ was. was) (λ was. was)
+            (stands_last g.is_told g.kept g.moment g.left_since (disk_of store) after records None counts_now keeps told image is) in
+        inl (subst (λ (rs : List Record). StandsFor image (texts_of rs)) (sym (append-nil records)) stands);
     cause = cause;
     sink_cause = early sink said why;
   }
@@ -118,18 +114,19 @@ module _ {D : Type 0} {g : Ghosts D} (store : Store D g) (held : Option (List �
     scrubs_unsealed disk said cannot =
         let super = superblock_of (journal_of store) in
         let limit = limit_of (journal_of store) in
-        let others = met_split g.is_told super (records ++ cannot.put) cannot.seal limit cannot.met said cannot.put cannot.rest cannot.why in
-        let some = with_met cannot.put cannot.met in
+        let first = met_first g.is_told super (records ++ cannot.put) cannot.left limit cannot.met said cannot.why in
+        let some = cannot.put ++ cannot.met in
         record {
           put = cannot.put;
           met = cannot.met;
-          ends = unsealed findings.report.items found.is cannot.seal cannot.rest (sym found.new ∙ cannot.split) cannot.why refl;
+          ends = unsealed findings.report.items found.is cannot.left (sym found.new ∙ cannot.split) cannot.why refl;
           each = λ told.
               weaker g.moment g.left_since (disk_of store) disk (StandsSealed records some) (LeavesSealed records some) (cannot.each told)
-              (seals_say some others.0 (cannot.split ∙ others.1));
+              (seals_say some first.0
+              (cannot.split ∙ ap (λ (s : List Record). cannot.put ++ s) first.1 ∙ sym (append_assoc cannot.put cannot.met first.0)));
           last = cannot.last;
           cause = cannot.cause;
-          sink_cause = early_put g.is_told super (records ++ cannot.put) cannot.seal limit cannot.met sink said cannot.why;
+          sink_cause = early_put g.is_told super (records ++ cannot.put) cannot.left limit cannot.met sink said cannot.why;
         }
 
     -- all were put, and then the line, or a front of it
@@ -139,11 +136,12 @@ module _ {D : Type 0} {g : Ghosts D} (store : Store D g) (held : Option (List �
     scrubs_sealed new after later risen said done is reports cause =
         subst (λ (d : D). ScrubsLoaded store d held later sink risen said) (sym is) (record {
           put = seals;
-          met = None;
+          met = [];
           ends = sealed findings.report.items found.is found.new refl reports;
           each = λ told.
-              weaker g.moment g.left_since (disk_of store) (disk_of new) (StandsSealed records seals) (LeavesSealed records seals) (done.each told)
-              (seals_say seals [] (sym (append-nil seals)));
+              weaker g.moment g.left_since (disk_of store) (disk_of new) (StandsSealed records seals) (LeavesSealed records (seals ++ [])) (done.each told)
+              (λ image stands.
+              subst (λ (s : List Record). LeavesSealed records s image) (sym (append-nil seals)) (seals_say seals [] (sym (append-nil seals)) image stands));
           last = λ told image left.
               inl (subst (λ (rs : List Record). StandsFor image (texts_of rs)) done.records
               (each_stands (g.kept (disk_of new)) (texts_of (records_of new)) image (new.keeps told) left));
@@ -164,7 +162,7 @@ module _ {D : Type 0} {g : Ghosts D} (limit : ℕ) (before after : D) (held late
   scrubs_some store is scrubs =
       let super = superblock_of (journal_of store) in
       let records = records_of store in
-      let some = with_met scrubs.put scrubs.met in
+      let some = scrubs.put ++ scrubs.met in
       inr (record {
         records = records;
         are = is.are;

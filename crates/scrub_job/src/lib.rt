@@ -4,6 +4,7 @@
 
 mod checking;
 mod counting;
+mod putting;
 mod scrubbing;
 mod sealing;
 

@@ -9,7 +9,7 @@ ghost use Rattle.scrub_job.specs.Scrubbing.{EndsUnread, IsScrub, ScrubsLoaded};
 
 use crate::checking::{Findings, Unread, findings_in};
 use crate::counting::tell;
-use crate::sealing::sealed;
+use crate::putting::put_seals;
 use disk_model::Disk;
 use node_jobs::loaded;
 use node_links::Sink;
@@ -78,7 +78,7 @@ fn scrub_loaded<R: Threads + Sync, K: Sink, D: Disk, G: Gate>(
         Ok(found) => found,
         Err(why) => return unread(store, why),
     };
-    match sealed(alloc, store, seals.as_slice()) {
+    match put_seals(alloc, store, seals.as_slice()) {
         Ok(store) => (tell(alloc, report.as_slice(), out), store.close()),
         Err(Ended { status, disk }) => (status, disk),
     }
