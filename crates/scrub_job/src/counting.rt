@@ -14,6 +14,7 @@ use xt_base::{Failed, OutOfMemory};
 use xt_messages::Status;
 
 /// How many bodies are new, good and damaged.
+#[derive(Drop)]
 struct Counts {
     new: u64,
     good: u64,

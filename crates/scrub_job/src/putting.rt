@@ -105,10 +105,10 @@ pub fn put_seals<D: Disk>(
     let mut rest = seals;
     while !rest.is_empty() {
         let (now, later) = rest.split_at(rest.len().min(BATCH));
-        store = match put_together(alloc, store, now) {
-            Ok(store) => store,
+        match put_together(alloc, store, now) {
+            Ok(kept) => store = kept,
             Err(ended) => return Err(ended),
-        };
+        }
         rest = later;
     }
     Ok(store)

@@ -5,6 +5,7 @@ ghost use Rattle.object_store.specs.Texts.{AreRecords};
 ghost use Rattle.node_runs.specs.Keeping.{KeepsPut};
 ghost use Rattle.node_loop.specs.Events.{HasDiskCause};
 ghost use Rattle.node_jobs.specs.Disks.{medium, IsLoaded, IsUnloaded};
+ghost use Rattle.scrub_job.specs.Checked.{HasFound};
 ghost use Rattle.scrub_job.specs.Scrubbing.{EndsUnread, IsScrub, ScrubsLoaded};
 
 use crate::checking::{Findings, Unread, findings_in};
@@ -16,6 +17,7 @@ use node_links::Sink;
 use node_loop::Ended;
 use object_store::Store;
 use par_halves::Gate;
+use scrub::scrubs_say_nothing;
 use std::alloc::Global;
 use std::thread::Threads;
 use xt_messages::Status;
@@ -44,7 +46,7 @@ fn opened<D: Disk>(
     loaded(alloc, disk, limit)
 }
 
-/// A scrub whose bodies weren't all read. One that couldn't be read is counted by the disk.
+/// Ends a scrub whose bodies weren't all read. A body that couldn't be read is counted by the disk.
 fn unread<D: Disk>(store: Store<D>, why: Unread) -> (Status, D)
     ensures why { EndsUnread result.0 }
     ensures cause { HasDiskCause (D.fault_count (disk_of store)) (D.fault_count result.1) result.0 }
@@ -52,13 +54,35 @@ fn unread<D: Disk>(store: Store<D>, why: Unread) -> (Status, D)
         (records_of store) None }
 {
     let mut disk = store.close();
-    let status = match why {
-        Unread::Failed => Status::DiskFault {
-            count: disk.count_fault(),
-        },
-        Unread::OutOfMemory => Status::OutOfMemory,
-    };
-    (status, disk)
+    match why {
+        Unread::Failed => {
+            let count = disk.count_fault();
+            (Status::DiskFault { count }, disk)
+        }
+        Unread::OutOfMemory => (Status::OutOfMemory, disk),
+    }
+}
+
+/// Keeps the digests of the bodies that were found to be new, and then puts the counts to the sink. Returns why it ended.
+fn keep<K: Sink, D: Disk>(
+    alloc: Global,
+    store: Store<D>,
+    found: &Findings,
+    out: &mut K,
+) -> (Status, D)
+    requires records { AreRecords (records_of store) }
+    requires found { HasFound D.is_told (records_of store) found.now }
+    ensures { ScrubsLoaded store result.1 (K.held out.old) (K.held out.new)
+        (K.fault_count out.old) (K.fault_count out.new) result.0 }
+{
+    scrubs_say_nothing();
+    match put_seals(alloc, store, found.seals.as_slice()) {
+        Ok(store) => {
+            let status = tell(alloc, found.report.as_slice(), out);
+            (status, store.close())
+        }
+        Err(Ended { status, disk }) => (status, disk),
+    }
 }
 
 /// Checks the bodies of a store that was loaded, keeps the digests of those that are new, and puts the counts to the sink. Returns why it
@@ -70,17 +94,13 @@ fn scrub_loaded<R: Threads + Sync, K: Sink, D: Disk, G: Gate>(
     out: &mut K,
     gate: &G,
 ) -> (Status, D)
-    requires { AreRecords (records_of store) }
+    requires records { AreRecords (records_of store) }
     ensures { ScrubsLoaded store result.1 (K.held out.old) (K.held out.new)
         (K.fault_count out.old) (K.fault_count out.new) result.0 }
 {
-    let Findings { report, seals } = match findings_in(rt, alloc, &store, gate) {
-        Ok(found) => found,
-        Err(why) => return unread(store, why),
-    };
-    match put_seals(alloc, store, seals.as_slice()) {
-        Ok(store) => (tell(alloc, report.as_slice(), out), store.close()),
-        Err(Ended { status, disk }) => (status, disk),
+    match findings_in(rt, alloc, &store, gate) {
+        Ok(found) => keep(alloc, store, &found, out),
+        Err(why) => unread(store, why),
     }
 }
 
