@@ -27,7 +27,7 @@ use Rattle.scrub.specs.Laws.{ScrubsSayNothing}
 use Rattle.scrub.specs.Report.{is_damaged, seals_of}
 use Rattle.scrub_job.specs.Checked.{items_in, HasFound}
 use Rattle.scrub_job.specs.Counts.{counts_text, status_by, status_of}
-use Rattle.scrub_job.specs.Scrubbing.{Ends, unread, unsealed, sealed, EndsUnread, IsScrub, LeavesSealed, ScrubsLoaded}
+use Rattle.scrub_job.specs.Scrubbing.{Ends, EndsUnread, IsScrub, LeavesSealed, ScrubsLoaded}
 use Rattle.scrub_job.specs.Sealing.{AreSealed, CannotSeal, EndsUnsealed, StandsSealed}
 use Rattle.scrub_job.specs.declared.checking.Findings.{Findings}
 use Rattle.scrub_job.proofs.Sealed.{none_of_them}
@@ -86,7 +86,7 @@ module _ {D : Type 0} {g : Ghosts D} (store : Store D g) (held : Option (List �
   scrubs_unread after said why cause keeps counts_now = record {
     put = [];
     met = [];
-    ends = unread refl refl why refl;
+    ends = inl (record { none_put = refl; none_met = refl; why = why; quiet = refl });
     each = λ told.
         weaker g.moment g.left_since (disk_of store) after (StandsForOne (records ∷ records ∷ [])) (LeavesSealed records []) (keeps told)
         (λ image. ⊎_elim (same_so image) (⊎_elim (same_so image) (λ none. absurd none)));
@@ -119,7 +119,14 @@ module _ {D : Type 0} {g : Ghosts D} (store : Store D g) (held : Option (List �
         record {
           put = cannot.put;
           met = cannot.met;
-          ends = unsealed findings.report.items found.is cannot.left (sym found.new ∙ cannot.split) cannot.why refl;
+          ends = inr (inl (record {
+            report = findings.report.items;
+            is = found.is;
+            left = cannot.left;
+            split = sym found.new ∙ cannot.split;
+            why = cannot.why;
+            quiet = refl;
+          }));
           each = λ told.
               weaker g.moment g.left_since (disk_of store) disk (StandsSealed records some) (LeavesSealed records some) (cannot.each told)
               (seals_say some first.0
@@ -137,7 +144,7 @@ module _ {D : Type 0} {g : Ghosts D} (store : Store D g) (held : Option (List �
         subst (λ (d : D). ScrubsLoaded store d held later sink risen said) (sym is) (record {
           put = seals;
           met = [];
-          ends = sealed findings.report.items found.is found.new refl reports;
+          ends = inr (inr (record { report = findings.report.items; is = found.is; all = found.new; none_met = refl; reports = reports }));
           each = λ told.
               weaker g.moment g.left_since (disk_of store) (disk_of new) (StandsSealed records seals) (LeavesSealed records (seals ++ [])) (done.each told)
               (λ image stands.

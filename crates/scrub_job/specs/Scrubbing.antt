@@ -44,18 +44,37 @@ EndsUnread (status.DiskFault count) = Unit {0}
 EndsUnread status.OutOfMemory = Unit {0}
 EndsUnread _ = ⊥
 
+-- Not all bodies were read, and none was sealed.
+pub record ReadsInPart (put met : List Record) (held later : Option (List ℕ)) (said : Status) : Type 0 where
+  pub none_put : put ≡ []
+  pub none_met : met ≡ []
+  pub why : EndsUnread said
+  pub quiet : later ≡ held
+
+-- Not all new bodies were sealed.
+pub record SealsInPart (is_told : Bool) (super : Option Superblock) (records : List Record) (limit : ℕ) (put met : List Record) (held later : Option (List ℕ)) (said : Status)
+    : Type 0 where
+  pub report : List Found
+  pub is : IsReportOn is_told records report
+  pub left : List Record
+  pub split : seals_of (items_in records) report ≡ put ++ left
+  pub why : EndsUnsealed is_told super (records ++ put) left limit met said
+  pub quiet : later ≡ held
+
+-- All new bodies were sealed, and how many they are is put with how many others are good and damaged.
+pub record SealsAll (is_told : Bool) (records put met : List Record) (held later : Option (List ℕ)) (said : Status) : Type 0 where
+  pub report : List Found
+  pub is : IsReportOn is_told records report
+  pub all : put ≡ seals_of (items_in records) report
+  pub none_met : met ≡ []
+  pub reports : Reports (counts_text report) (status_of report) held later said
+
 -- These seals were put after the records, in order, and those that were being put can be on the disk, all of them or none. What was put to
 -- the sink, and why it ended.
-pub data Ends (is_told : Bool) (super : Option Superblock) (records : List Record) (limit : ℕ) (put met : List Record) (held later : Option (List ℕ)) (said : Status)
-    : Type 0 where
-  -- not all bodies were read, and none was sealed
-  unread : put ≡ [] → met ≡ [] → EndsUnread said → later ≡ held → Ends is_told super records limit put met held later said
-  -- not all new bodies were sealed
-  unsealed : (report : List Found) → IsReportOn is_told records report → (left : List Record) → seals_of (items_in records) report ≡ put ++ left
-      → EndsUnsealed is_told super (records ++ put) left limit met said → later ≡ held → Ends is_told super records limit put met held later said
-  -- all new bodies were sealed, and how many there are is put with how many others
-  sealed : (report : List Found) → IsReportOn is_told records report → put ≡ seals_of (items_in records) report → met ≡ []
-      → Reports (counts_text report) (status_of report) held later said → Ends is_told super records limit put met held later said
+abbrev pub Ends : Bool → Option Superblock → List Record → ℕ → List Record → List Record → Option (List ℕ) → Option (List ℕ) → Status → Type 0
+Ends is_told super records limit put met held later said =
+    ReadsInPart put met held later said
+    ⊎ (SealsInPart is_told super records limit put met held later said ⊎ SealsAll is_told records put met held later said)
 
 -- what becomes of a store that was loaded
 pub record ScrubsLoaded {D : Type 0} {g : Ghosts D} (old : Store D g) (after : D) (held later : Option (List ℕ)) (sink risen : ℕ) (said : Status) : Type 0 where
