@@ -39,6 +39,8 @@ use Rattle.object_store.specs.Waits.{end_after, needed_after}
 use Rattle.object_store.proofs.Stored.{known_there}
 use Rattle.store_compact.specs.Compacting.{IsCompacted}
 use Rattle.orphan_sweep.specs.Swept.{compacted, removals, removed, swept}
+use Rattle.orphan_sweep.proofs.Remaining.{says_named_but}
+use Rattle.orphan_sweep.proofs.Removed.{says_but}
 use Rattle.orphan_sweep.specs.Sweeps.{AreRemoved, IsBack, IsStopped, IsSweepFull, IsSwept, Removes, StandsBetween, StandsOnTheWay, StopsAt, SweepEnds, Sweeps, lacking, sweep_need}
 
 -- ---- records
@@ -292,6 +294,8 @@ module _ {D : Type 0} {g : Ghosts D}
         let run = leaves told in
         run.each image (counts_now (disk_after_put result) (g.moment (disk_of old)) image told run.later is);
     faults = faults;
+    on_the_way = λ n. says_but (take n files) (records_of old);
+    in_the_end = says_named_but files (records_of old);
   }
 
   -- the removal ended with an error

@@ -8,13 +8,7 @@ use Rattle.xt_messages.specs.declared.record.Record.{Record}
 use Rattle.xt_protocol.specs.Folds.{fold_of}
 use Rattle.object_store.specs.Texts.{AreRecords}
 use Rattle.orphan_sweep.specs.Fates.{FitsFate, fate_of, fates_of, is_orphan, orphans_of}
-use Rattle.orphan_sweep.specs.Swept.{SaysBut, SaysNamedBut, folded_but, removed, swept}
-
-abbrev pub SaysOnTheWay : Type 0
-SaysOnTheWay = (files : List FileId) (records : List Record) → SaysBut files records (removed records files)
-
-abbrev pub SaysInTheEnd : Type 0
-SaysInTheEnd = (files : List FileId) (records : List Record) → SaysNamedBut files records (swept records files)
+use Rattle.orphan_sweep.specs.Swept.{folded_but}
 
 -- all files that records speak of, but for the orphans
 abbrev pub unswept : Folded → List (FileId × Option ℕ) → TimeSettings → ℕ → Folded

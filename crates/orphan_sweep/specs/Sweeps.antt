@@ -18,7 +18,7 @@ use Rattle.object_store.specs.Answers.{disk_after_put, put_fault}
 use Rattle.object_store.specs.Swaps.{size_of}
 use Rattle.object_store.specs.Texts.{texts_of}
 use Rattle.object_store.specs.Waits.{end_after, needed_after}
-use Rattle.orphan_sweep.specs.Swept.{compacted, removals, removed, swept}
+use Rattle.orphan_sweep.specs.Swept.{SaysBut, SaysNamedBut, compacted, removed, swept}
 
 -- ---- what a crash leaves
 
@@ -103,9 +103,12 @@ module _ {D : Type 0} {g : Ghosts D} where
   SweepEnds old files (Err error) = StopsAt old files error
 
 -- What it does. A crash at any moment, and in the end, leaves the records but for some of the first of these files, or those that are rewritten
--- once all of the files are removed. The disk counts one fault more exactly where it fails.
+-- once all of the files are removed; and all of these say what the old ones said of the other files. The disk counts one fault more exactly
+-- where it fails.
 pub record Sweeps {D : Type 0} {g : Ghosts D} (old : Store D g) (files : List FileId) (result : Result (Store D g) (AppendErr D g)) : Type 0 where
   pub end : SweepEnds old files result
   pub any_moment : IsTrue g.is_told → LeavesOnly g.moment g.left_since (disk_of old) (disk_after_put result) (StandsBetween (records_of old) files)
   pub left : IsTrue g.is_told → (image : List ℕ) → IsImage (g.kept (disk_after_put result)) image → StandsBetween (records_of old) files image
   pub faults : g.fault_count (disk_after_put result) ≡ fault_count_after (is_some (put_fault result)) (g.fault_count (disk_of old))
+  pub on_the_way : (n : ℕ) → SaysBut (take n files) (records_of old) (removed (records_of old) (take n files))
+  pub in_the_end : SaysNamedBut files (records_of old) (swept (records_of old) files)

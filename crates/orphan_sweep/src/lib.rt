@@ -3,8 +3,8 @@
 //!
 //! `judge_files` tells of each file of the store what is to become of it, by what the metadata server knows: it goes where it was unlinked
 //! long enough ago, and stays where it wasn't, or where the server never made it. `sweep` removes those that go, each by a record of its
-//! own, and then has the records rewritten, so that the store needs no room for them any more. `what_a_sweep_leaves` says what the records
-//! say then, and what they say on the way.
+//! own, and then has the records rewritten, so that the store needs no room for them any more. Its contract (`Sweeps`) says what the
+//! records say then, and what a crash on the way leaves.
 #![tactic(auto)]
 
 mod fate;
@@ -14,5 +14,5 @@ mod sweeping;
 
 pub use fate::Fate;
 pub use judging::judge_files;
-pub use laws::{judged_files_fit, others_stay, what_a_sweep_leaves};
+pub use laws::{judged_files_fit, others_stay};
 pub use sweeping::sweep;

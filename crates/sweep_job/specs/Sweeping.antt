@@ -1,5 +1,5 @@
 -- what the job of a sweep does
-use Rattle.std.specs.Prelude.{ℕ, ◌≡◌, ◌⊎◌, IsTrue, Option, None, Some, List, [], ◌∷◌}
+use Rattle.std.specs.Prelude.{ℕ, ◌≡◌, ◌⊎◌, IsTrue, Option, None, Some, List, [], ◌∷◌, take}
 use Rattle.disk_model.specs.declared.disk.Disk.{Ghosts}
 use Rattle.disk_model.specs.Disk.{IsImage, LeavesOnly}
 use Rattle.journal_areas.specs.declared.superblock.Superblock.{Superblock}
@@ -18,7 +18,8 @@ use Rattle.server_rows.specs.Laws.{files_made}
 use Rattle.server_rows.specs.Metadata.{catalogue_of}
 use Rattle.orphan_sweep.specs.declared.fate.Fate.{Fate}
 use Rattle.orphan_sweep.specs.Fates.{fates_of, orphans_of}
-use Rattle.orphan_sweep.specs.Swept.{swept}
+use Rattle.orphan_sweep.specs.Laws.{unswept}
+use Rattle.orphan_sweep.specs.Swept.{SaysBut, SaysNamedBut, folded_but, removed, swept}
 use Rattle.orphan_sweep.specs.Sweeps.{StandsBetween, lacking}
 use Rattle.node_links.specs.Streams.{Puts}
 use Rattle.schedule_lines.specs.Fronts.{PutsFront}
@@ -82,10 +83,12 @@ module _ {D : Type 0} (m : Medium D) where
     pub place : IsTrue m.is_told → end ≡ end_in super (texts_of records)
 
   -- From one disk to another a crash at any moment leaves the records but for some of the first of these files, or those that are rewritten once
-  -- all of the files are removed; and so it is in the end.
+  -- all of the files are removed; and so it is in the end. All of these say what the old ones said of the other files.
   pub record Passes (loaded after : D) (records : List Record) (files : List FileId) : Type 0 where
     pub each : IsTrue m.is_told → LeavesOnly m.moment m.left_since loaded after (StandsBetween records files)
     pub last : IsTrue m.is_told → (image : List ℕ) → IsImage (m.kept after) image → StandsBetween records files image
+    pub on_the_way : (n : ℕ) → SaysBut (take n files) records (removed records (take n files))
+    pub in_the_end : SaysNamedBut files records (swept records files)
 
   -- the sweep came to its end, and its line was put
   pub record IsDone (limit : ℕ) (loaded after : D) (records : List Record) (super : Option Superblock) (end : ℕ) (fates : List (FileId × Fate))
@@ -115,6 +118,8 @@ module _ {D : Type 0} (m : Medium D) where
     pub super : Option Superblock
     pub end : ℕ
     pub found : IsFound before loaded records super end
+    -- exactly the orphans among the files go
+    pub goes : folded_but (orphans_of (fates_of (fold_of records) files times reading)) (fold_of records) ≡ unswept (fold_of records) files times reading
     pub does : SweepsOrStops limit loaded after records super end (fates_of (fold_of records) files times reading) held later said
 
   -- They weren't loaded, and nothing was put; or they were found.

@@ -1,5 +1,5 @@
 //! The job of a sweep.
-ghost use Rattle.std.specs.Prelude.{◌≡◌, ◌≤◌, ◌<◌, ◌^◌, length, IfErr, IfOk, Err};
+ghost use Rattle.std.specs.Prelude.{◌≡◌, ◌≤◌, ℕ, length, IfOk, Err};
 ghost use Rattle.std.specs.List.{All};
 ghost use Rattle.xt_protocol.specs.Folds.{fold_of};
 ghost use Rattle.xt_journal.specs.Access.{limit_of, place_of, superblock_of};
@@ -82,6 +82,7 @@ fn sweep_loaded<K: Sink, D: Disk>(
         (K.held out.old) (K.held out.new) result.0 }
     ensures disk { HasDiskCause (D.fault_count (disk_of store)) (D.fault_count result.1) result.0 }
     ensures sink { HasSinkCause (K.fault_count out.old) (K.fault_count out.new) result.0 }
+    ensures clock { (count : ℕ) → HasClockCause count count result.0 }
 {
     let Ok(fates) = judged(alloc, &store, files, times, now) else {
         return (Status::OutOfMemory, store.close());
@@ -113,6 +114,7 @@ fn sweep_osd<K: Sink, D: Disk>(
         times.now files.now now disk result.1 (K.held out.old) (K.held out.new) result.0 }
     ensures disk { HasDiskCause (D.fault_count disk) (D.fault_count result.1) result.0 }
     ensures sink { HasSinkCause (K.fault_count out.old) (K.fault_count out.new) result.0 }
+    ensures clock { (count : ℕ) → HasClockCause count count result.0 }
 {
     match opened(alloc, path, limit, disk) {
         Ok(store) => sweep_loaded(alloc, store, files, times, now, out),

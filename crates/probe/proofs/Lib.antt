@@ -1,0 +1,5 @@
+pub mod Fitting
+pub mod Judged
+pub mod Orphans
+pub mod Removed
+pub mod Way
