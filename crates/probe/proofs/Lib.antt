@@ -1,5 +1,0 @@
-pub mod Fitting
-pub mod Judged
-pub mod Orphans
-pub mod Removed
-pub mod Way

@@ -1,7 +1,0 @@
-use Rattle.std.proofs.Common.{take}
-use Rattle.probe.specs.Fates.{AreKnownIn}
-use Rattle.probe.proofs.judging.MadeFiles.of.Given as goal
-
--- what the entries so far say
-abbrev pub invariant-loop-file : goal.invariant-loop-file
-invariant-loop-file l = AreKnownIn l.made (take l.file-index l.files)

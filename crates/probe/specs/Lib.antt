@@ -1,4 +1,0 @@
-pub mod Fates
-pub mod Swept
-pub mod Laws
-pub mod Sweeps
