@@ -1,5 +1,5 @@
 -- the files that records speak of can be named in records
-use Rattle.std.proofs.Common.{◌≡◌, ◌∙◌, ℕ, Bool, true, false, cond, List, [], ◌∷◌, map, get_or, Option, None, Some, refl, sym, ap, subst}
+use Rattle.std.proofs.Common.{◌≡◌, ◌∙◌, ℕ, Bool, true, false, cond, List, [], ◌∷◌, ◌++◌, map, Option, None, Some, sym, subst}
 use Rattle.std.specs.List.{All, AllByRecursion, fold}
 use Rattle.std.specs.Option.{IfSome}
 use Rattle.std.proofs.lemmas.List.Elements.{All-from_recursion, All-map, recursion_from_All}
@@ -11,11 +11,15 @@ use Rattle.xt_messages.specs.declared.record.Folded.{Folded}
 use Rattle.xt_messages.specs.declared.record.Record.{Record}
 use Rattle.xt_messages.specs.declared.record.Record.TheVariants as kept
 use Rattle.xt_protocol.specs.FileIds.{is_before, is_file}
-use Rattle.xt_protocol.specs.Folds.{file_of, fold_of, folded_after, forgets, nothing_kept, row_after, row_in, rows_after, with_row, without_row}
+use Rattle.xt_protocol.specs.Folds.{AreInPlace, file_of, fold_of, folded_after, forgets, nothing_kept, row_after, row_in, rows_after, with_row, without_row}
 use Rattle.xt_protocol.proofs.FileRows.{each-without_row}
 use Rattle.xt_protocol.proofs.Folds.{row_after-file, row_in-file}
-use Rattle.orphan_sweep.specs.Fates.{FitsFate, fate_at, fates_of}
+use Rattle.object_store.specs.Texts.{AreRecords}
+use Rattle.object_store.proofs.Reading.{are-append}
+use Rattle.orphan_sweep.specs.declared.fate.Fate.{Fate}
+use Rattle.orphan_sweep.specs.Fates.{FitsFate, fate_at, fates_of, is_orphan, orphans_of}
 use Rattle.orphan_sweep.specs.Laws.{FilesFit}
+use Rattle.orphan_sweep.specs.Swept.{removals, removed}
 
 -- a record that is within its limits names such a file
 named_fits : (rec : Record) → FitsRecord rec → IfSome (file_of rec) FitsFile
@@ -70,4 +74,26 @@ rows_fit records fit = all_fit records nothing_kept tt (recursion_from_All FitsR
 pub files_fit : FilesFit
 files_fit records are files times now =
     let rows = All-from_recursion RowFits (fold_of records).files (rows_fit records are.fit) in
-    All-map FitsFate (fate_at files times now) (fold_of records).files (λ k d less. rows k d less)
+    All-map FitsFate (fate_at files times now) (fold_of records).files rows
+
+-- ---- records with which files are removed
+
+orphans_fit : (fates : List (FileId × Fate)) → AllByRecursion FitsFate fates → AllByRecursion FitsFile (orphans_of fates)
+orphans_fit [] all = tt
+orphans_fit (f ∷ fs) all = at (is_orphan f.1) (orphans_fit fs all.1)
+  where
+    at : (goes : Bool) → AllByRecursion FitsFile (orphans_of fs) → AllByRecursion FitsFile (cond goes (f.0 ∷ []) [] ++ orphans_of fs)
+    at true rest = (all.0, rest)
+    at false rest = rest
+
+removals_placed : (folded : Folded) (files : List FileId) → AreInPlace folded (removals files)
+removals_placed folded [] = tt
+removals_placed folded (file ∷ files) = (tt, removals_placed (folded_after folded (kept.Forget file)) files)
+
+-- they are within their limits and in their places, after those that are
+pub removed_are : (records : List Record) (fates : List (FileId × Fate)) → AreRecords records → All FitsFate fates → AreRecords (removed records (orphans_of fates))
+removed_are records fates are fit =
+    let files = All-from_recursion FitsFile (orphans_of fates) (orphans_fit fates (recursion_from_All FitsFate fates fit)) in
+    are-append records (removals (orphans_of fates)) are
+    (All-map FitsRecord (λ (file : FileId). kept.Forget file) (orphans_of fates) files)
+    (removals_placed (fold_of records) (orphans_of fates))

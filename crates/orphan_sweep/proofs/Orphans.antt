@@ -1,15 +1,18 @@
 -- which files stay, where the orphans among some files are removed
-use Rattle.std.proofs.Common.{◌≡◌, ◌||◌, ◌&&◌, ℕ, Bool, true, false, cond, not, List, [], ◌∷◌, ◌++◌, map, Option, refl, sym, ◌∙◌, ap}
+use Rattle.std.proofs.Common.{◌≡◌, ◌<◌, ◌+◌, ◌||◌, ◌&&◌, ℕ, Bool, true, false, cond, not, List, [], ◌∷◌, ◌++◌, map, length, take, drop, get_or, Option, refl, sym, ◌∙◌, ap, append-nil}
 use Rattle.std.specs.Prelude.{filter}
 use Rattle.std.specs.List.{AllByRecursion, list_any}
 use Rattle.std.proofs.lemmas.Bool.{or_left, or_right}
+use Rattle.std.proofs.lemmas.Grind.{flat_map-append}
+use Rattle.std.proofs.lemmas.List.{drop_more, take-append-drop, take_more}
 use Rattle.xt_base.specs.TimeSettings.{TimeSettings}
 use Rattle.xt_base.specs.declared.ids.FileId.{FileId}
 use Rattle.xt_messages.specs.declared.record.FileRow.{FileRow}
 use Rattle.xt_messages.specs.declared.record.Folded.{Folded}
 use Rattle.xt_protocol.specs.FileIds.{is_file}
 use Rattle.xt_protocol.proofs.Folds.{file-equal, file-itself}
-use Rattle.orphan_sweep.specs.Fates.{fate_at, fate_of, is_orphan, orphans_of}
+use Rattle.orphan_sweep.specs.declared.fate.Fate.{Fate}
+use Rattle.orphan_sweep.specs.Fates.{fate_at, fate_of, is_orphan, orphan_if, orphans_of}
 use Rattle.orphan_sweep.specs.Laws.{OthersStay}
 use Rattle.orphan_sweep.specs.Swept.{folded_but, is_among}
 
@@ -66,6 +69,30 @@ module _ (files : List (FileId × Option ℕ)) (times : TimeSettings) (now : ℕ
       → AllByRecursion (λ (row : FileRow). is_among (gone all) row.file ≡ goes row.file) rows
   each_goes all [] have = tt
   each_goes all (r ∷ rs) have = (are_those all r.file ∙ ap (λ (b : Bool). b && goes r.file) have.0, each_goes all rs have.1)
+
+-- ---- one fate after the other
+
+module _ (fates : List (FileId × Fate)) (i : ℕ) (entry : FileId × Fate) (inside : i < length fates) (is : entry ≡ get_or fates i entry) where
+  front : take (i + 1) fates ≡ take i fates ++ entry ∷ []
+  front = take_more fates i entry inside ∙ ap (λ (e : FileId × Fate). take i fates ++ e ∷ []) (sym is)
+
+  whole : fates ≡ take i fates ++ entry ∷ drop (i + 1) fates
+  whole =
+      sym (take-append-drop i fates)
+      ∙ ap (λ (l : List (FileId × Fate)). take i fates ++ l) (drop_more fates i entry inside ∙ ap (λ (e : FileId × Fate). e ∷ drop (i + 1) fates) (sym is))
+
+  -- the orphans with one fate more, by whether it is one's
+  pub orphans_more : (goes : Bool) → is_orphan entry.1 ≡ goes → orphans_of (take (i + 1) fates) ≡ orphans_of (take i fates) ++ cond goes (entry.0 ∷ []) []
+  orphans_more goes here =
+      ap orphans_of front ∙ flat_map-append orphan_if (take i fates) (entry ∷ [])
+      ∙ ap (λ (l : List FileId). orphans_of (take i fates) ++ l) (append-nil (orphan_if entry))
+      ∙ ap (λ (b : Bool). orphans_of (take i fates) ++ cond b (entry.0 ∷ []) []) here
+
+  -- all of them, where this one is an orphan's
+  pub orphans_parted : is_orphan entry.1 ≡ true → orphans_of fates ≡ orphans_of (take i fates) ++ entry.0 ∷ orphans_of (drop (i + 1) fates)
+  orphans_parted here =
+      ap orphans_of whole ∙ flat_map-append orphan_if (take i fates) (entry ∷ drop (i + 1) fates)
+      ∙ ap (λ (b : Bool). orphans_of (take i fates) ++ (cond b (entry.0 ∷ []) [] ++ orphans_of (drop (i + 1) fates))) here
 
 pub others_stay : OthersStay
 unfolding folded_but

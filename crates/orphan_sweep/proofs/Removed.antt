@@ -21,11 +21,8 @@ use Rattle.orphan_sweep.specs.Swept.{SaysBut, folded_but, is_among, removals, re
 -- what fails one test and then another
 failing_both : {X : Type 0} (p q : X → Bool) (xs : List X) → filter (λ x. not (p x)) (filter (λ x. not (q x)) xs) ≡ filter (λ x. not (q x || p x)) xs
 failing_both p q [] = refl
-failing_both p q (x ∷ xs) = parted (q x) ∙ at (q x) (p x) (failing_both p q xs)
+failing_both {X = X} p q (x ∷ xs) = parted (q x) ∙ at (q x) (p x) (failing_both p q xs)
   where
-    left : List X
-    left = filter (λ y. not (q y)) xs
-
     parted : (a : Bool)
         → filter (λ y. not (p y)) (cond (not a) (x ∷ filter (λ y. not (q y)) xs) (filter (λ y. not (q y)) xs))
         ≡ cond (not a) (filter (λ y. not (p y)) (x ∷ filter (λ y. not (q y)) xs)) (filter (λ y. not (p y)) (filter (λ y. not (q y)) xs))

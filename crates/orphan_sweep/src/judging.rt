@@ -1,6 +1,6 @@
 //! The fate of each file.
-ghost use Rattle.std.specs.Prelude.{IfOk};
-ghost use Rattle.orphan_sweep.specs.Fates.{AreKnownIn, fates_of, known_in};
+ghost use Rattle.std.specs.Prelude.{◌≡◌, IfOk};
+ghost use Rattle.orphan_sweep.specs.Fates.{fates_of};
 
 use crate::fate::{Fate, fate_by};
 use std::alloc::Global;
