@@ -1,9 +1,8 @@
 -- the files that records speak of can be named in records
-use Rattle.std.proofs.Common.{◌≡◌, ◌∙◌, ℕ, Bool, true, false, cond, List, [], ◌∷◌, ◌++◌, map, Option, None, Some, sym, subst}
+use Rattle.std.proofs.Common.{◌∙◌, Bool, true, false, cond, List, [], ◌∷◌, ◌++◌, Option, None, Some, sym, subst}
 use Rattle.std.specs.List.{All, AllByRecursion, fold}
 use Rattle.std.specs.Option.{IfSome}
 use Rattle.std.proofs.lemmas.List.Elements.{All-from_recursion, All-map, recursion_from_All}
-use Rattle.xt_base.specs.TimeSettings.{TimeSettings}
 use Rattle.xt_base.specs.declared.ids.FileId.{FileId}
 use Rattle.xt_messages.specs.Limits.{FitsFile, FitsRecord}
 use Rattle.xt_messages.specs.declared.record.FileRow.{FileRow}
@@ -17,7 +16,7 @@ use Rattle.xt_protocol.proofs.Folds.{row_after-file, row_in-file}
 use Rattle.object_store.specs.Texts.{AreRecords}
 use Rattle.object_store.proofs.Reading.{are-append}
 use Rattle.orphan_sweep.specs.declared.fate.Fate.{Fate}
-use Rattle.orphan_sweep.specs.Fates.{FitsFate, fate_at, fates_of, is_orphan, orphans_of}
+use Rattle.orphan_sweep.specs.Fates.{FitsFate, fate_at, is_orphan, orphans_of}
 use Rattle.orphan_sweep.specs.Laws.{FilesFit}
 use Rattle.orphan_sweep.specs.Swept.{removals, removed}
 

@@ -8,7 +8,6 @@ use Rattle.std.proofs.lemmas.List.{drop_more, take-append-drop, take_more}
 use Rattle.xt_base.specs.TimeSettings.{TimeSettings}
 use Rattle.xt_base.specs.declared.ids.FileId.{FileId}
 use Rattle.xt_messages.specs.declared.record.FileRow.{FileRow}
-use Rattle.xt_messages.specs.declared.record.Folded.{Folded}
 use Rattle.xt_protocol.specs.FileIds.{is_file}
 use Rattle.xt_protocol.proofs.Folds.{file-equal, file-itself}
 use Rattle.orphan_sweep.specs.declared.fate.Fate.{Fate}

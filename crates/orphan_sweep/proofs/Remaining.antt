@@ -1,5 +1,5 @@
 -- what records say once files are swept from them
-use Rattle.std.proofs.Common.{◌≡◌, ℕ, Bool, true, false, cond, not, List, [], ◌∷◌, map, Some, unwrap_or, Option, refl, sym, ◌∙◌, ap, subst}
+use Rattle.std.proofs.Common.{◌≡◌, ℕ, Bool, true, false, cond, not, List, [], ◌∷◌, map, Some, unwrap_or, Option, refl, sym, ◌∙◌, ap}
 use Rattle.std.specs.Prelude.{filter}
 use Rattle.xt_base.specs.declared.ids.FileId.{FileId}
 use Rattle.xt_base.specs.declared.ids.Stamp.{Stamp}
@@ -9,7 +9,7 @@ use Rattle.xt_messages.specs.declared.record.Folded.{Folded}
 use Rattle.xt_messages.specs.declared.record.KeepBody.{KeepBody}
 use Rattle.xt_messages.specs.declared.record.Record.{Record}
 use Rattle.xt_protocol.specs.FileIds.{is_file}
-use Rattle.xt_protocol.specs.Folds.{body_kept, body_of, fold_of, row_in, widened}
+use Rattle.xt_protocol.specs.Folds.{body_of, fold_of, row_in, widened}
 use Rattle.xt_protocol.specs.Forgetting.{folded_without, row_without}
 use Rattle.xt_protocol.specs.Stamps.{has_version}
 use Rattle.xt_protocol.proofs.Folds.{file-equal}

@@ -1,5 +1,5 @@
 -- what records say once files are removed from them
-use Rattle.std.proofs.Common.{◌≡◌, ◌||◌, ℕ, Bool, true, false, cond, not, List, [], ◌∷◌, ◌++◌, map, Option, None, refl, sym, ◌∙◌, ap, append-nil}
+use Rattle.std.proofs.Common.{◌≡◌, ◌||◌, ℕ, Bool, true, false, cond, not, List, [], ◌∷◌, ◌++◌, Option, refl, sym, ◌∙◌, ap, append-nil}
 use Rattle.std.specs.Prelude.{filter}
 use Rattle.std.specs.List.{fold}
 use Rattle.std.proofs.lemmas.Bool.{or_parts}

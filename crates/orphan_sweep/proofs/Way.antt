@@ -1,11 +1,11 @@
 -- how a sweep goes, file by file
-use Rattle.std.proofs.Common.{◌≡◌, ◌≤◌, ◌<◌, ◌+◌, ◌⊎◌, ℕ, Bool, true, false, cond, List, [], ◌∷◌, ◌++◌, map, length, take, Option, None, Some, Result, Ok, Err, inl, inr, refl, sym, ◌∙◌, ap, subst, arith, append-nil, append_assoc, length-append}
+use Rattle.std.proofs.Common.{◌≡◌, ◌≤◌, ◌<◌, ◌+◌, ℕ, Bool, true, false, cond, List, [], ◌∷◌, ◌++◌, length, take, Option, None, Some, Result, Ok, Err, inl, inr, refl, sym, ◌∙◌, ap, subst, arith, append-nil, append_assoc, length-append}
 use Rattle.std.specs.Prelude.{IsTrue, is_some, nat_lt}
 use Rattle.std.proofs.lemmas.Bool.Decides.{nat_tests}
 use Rattle.std.proofs.lemmas.List.{map-append, take-append-le}
 use Rattle.std.proofs.Math.Seq.{take-append_seam, take-append-add, take-length}
 use Rattle.disk_model.specs.declared.disk.Disk.{Ghosts}
-use Rattle.disk_model.specs.Disk.{Kept, IsImage, LeavesOnly}
+use Rattle.disk_model.specs.Disk.{IsImage, LeavesOnly}
 use Rattle.disk_model.proofs.Moments.{begun, joined, weaker}
 use Rattle.xt_base.specs.Faults.{counted, fault_count_after}
 use Rattle.xt_base.specs.declared.ids.FileId.{FileId}
@@ -41,7 +41,7 @@ use Rattle.store_compact.specs.Compacting.{IsCompacted}
 use Rattle.orphan_sweep.specs.Swept.{compacted, removals, removed, swept}
 use Rattle.orphan_sweep.proofs.Remaining.{says_named_but}
 use Rattle.orphan_sweep.proofs.Removed.{says_but}
-use Rattle.orphan_sweep.specs.Sweeps.{AreRemoved, IsBack, IsStopped, IsSweepFull, IsSwept, Removes, StandsBetween, StandsOnTheWay, StopsAt, SweepEnds, Sweeps, lacking, sweep_need}
+use Rattle.orphan_sweep.specs.Sweeps.{AreRemoved, IsBack, IsStopped, StandsBetween, StandsOnTheWay, StopsAt, SweepEnds, Sweeps, lacking, sweep_need}
 
 -- ---- records
 

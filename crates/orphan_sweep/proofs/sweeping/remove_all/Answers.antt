@@ -1,4 +1,4 @@
-use Rattle.std.proofs.Common.{◌≡◌, ◌+◌, ◌++◌, true, false, [], take, drop, sym, subst, ◌∙◌, ap, append-nil}
+use Rattle.std.proofs.Common.{◌≡◌, ◌+◌, true, false, take, drop, sym, subst, ◌∙◌, append-nil}
 use Rattle.orphan_sweep.specs.Fates.{is_orphan, orphans_of}
 use Rattle.orphan_sweep.specs.Sweeps.{AreRemoved, IsStopped}
 use Rattle.orphan_sweep.proofs.Orphans.{orphans_more, orphans_parted}
@@ -28,14 +28,14 @@ loop-file-preserved g c =
     let old = c.args.store in
     let gone = orphans_of (take i fates) in
     elim c.if-is_orphan.branch [
-      then-is_orphan+in-Ok w ↦
-        let goes : is_orphan entry.1 ≡ true = sym c.is_orphan.ensures ∙ w.if-is_orphan.true in
-        subst (λ s. AreRemoved {g = g.D.Disk} old (orphans_of (take (i + 1) fates)) s) (sym w.store-is)
-        (subst (λ files. AreRemoved {g = g.D.Disk} old files w.in-Ok.put) (sym (orphans_more fates i entry c.loop-file-test.true c.loop-file-item.is true goes))
-        (one_more {g = g.D.Disk} old gone c.loop-file.store c.loop-file.invariant entry.0 w.in-Ok.put w.in-Ok.ensures))
+      | then-is_orphan+in-Ok w ↦
+          let goes : is_orphan entry.1 ≡ true = sym c.is_orphan.ensures ∙ w.if-is_orphan.true in
+          subst (λ s. AreRemoved {g = g.D.Disk} old (orphans_of (take (i + 1) fates)) s) (sym w.store-is)
+          (subst (λ files. AreRemoved {g = g.D.Disk} old files w.in-Ok.put) (sym (orphans_more fates i entry c.loop-file-test.true c.loop-file-item.is true goes))
+          (one_more {g = g.D.Disk} old gone c.loop-file.store c.loop-file.invariant entry.0 w.in-Ok.put w.in-Ok.ensures))
       | else-is_orphan w ↦
-        let stays : is_orphan entry.1 ≡ false = sym c.is_orphan.ensures ∙ w.if-is_orphan.false in
-        subst (λ s. AreRemoved {g = g.D.Disk} old (orphans_of (take (i + 1) fates)) s) (sym w.store-is)
-        (subst (λ files. AreRemoved {g = g.D.Disk} old files c.loop-file.store)
-        (sym (orphans_more fates i entry c.loop-file-test.true c.loop-file-item.is false stays ∙ append-nil gone)) c.loop-file.invariant)
+          let stays : is_orphan entry.1 ≡ false = sym c.is_orphan.ensures ∙ w.if-is_orphan.false in
+          subst (λ s. AreRemoved {g = g.D.Disk} old (orphans_of (take (i + 1) fates)) s) (sym w.store-is)
+          (subst (λ files. AreRemoved {g = g.D.Disk} old files c.loop-file.store)
+          (sym (orphans_more fates i entry c.loop-file-test.true c.loop-file-item.is false stays ∙ append-nil gone)) c.loop-file.invariant)
     ]

@@ -1,4 +1,4 @@
-use Rattle.std.proofs.Common.{◌≡◌, sym, subst, ◌∙◌, ap}
+use Rattle.std.proofs.Common.{sym, subst, ◌∙◌, ap}
 use Rattle.xt_protocol.specs.Folds.{fold_of}
 use Rattle.replica_records.specs.Heads.{heads_of}
 use Rattle.object_store.specs.Access.{records_of}
