@@ -1,8 +1,8 @@
 //! What is put of a sweep.
-ghost use Rattle.std.specs.Prelude.{◌≡◌, IfOk, string_bytes, count_by};
-ghost use Rattle.xt_messages.specs.declared.status.Status.TheVariants as status;
+ghost use Rattle.std.specs.Prelude.{◌≡◌, ◌++◌, IfOk, OnOk, string_bytes};
+ghost use Rattle.std.specs.Fmt.{decimal};
 ghost use Rattle.node_jobs.specs.Jobs.{HasSinkCause};
-ghost use Rattle.sweep_job.specs.Lines.{is_kept, is_orphan, is_unknown, line_of, swept_line};
+ghost use Rattle.sweep_job.specs.Lines.{count_of, is_same, line_of, swept_line};
 ghost use Rattle.sweep_job.specs.Sweeping.{Tells};
 
 use node_links::Sink;
@@ -12,48 +12,51 @@ use std::alloc::Global;
 use xt_base::{Failed, FileId, OutOfMemory};
 use xt_messages::Status;
 
-/// How many files go, how many stay that the metadata server made, and how many stay that it didn't make.
-#[derive(Clone, Copy)]
-struct Counts {
-    orphan: u64,
-    kept: u64,
-    unknown: u64,
+/// Whether two fates are the same.
+fn is_same(a: Fate, b: Fate) -> bool
+    ensures { result ≡ is_same a b }
+{
+    match (a, b) {
+        (Fate::Orphan, Fate::Orphan) => true,
+        (Fate::Kept, Fate::Kept) => true,
+        (Fate::Unknown, Fate::Unknown) => true,
+        _ => false,
+    }
 }
 
-/// These numbers of the fates.
-fn counts(fates: &[(FileId, Fate)]) -> Counts
-    ensures orphan { result.orphan ≡ count_by is_orphan fates.now }
-    ensures kept { result.kept ≡ count_by is_kept fates.now }
-    ensures unknown { result.unknown ≡ count_by is_unknown fates.now }
+/// How many files have this fate.
+fn count_of(fates: &[(FileId, Fate)], fate: Fate) -> u64
+    ensures { result ≡ count_of fate fates.now }
 {
-    let mut orphan: usize = 0;
-    let mut kept: usize = 0;
-    let mut unknown: usize = 0;
-    for (_, fate) in fates {
-        match fate {
-            Fate::Orphan => orphan += 1,
-            Fate::Kept => kept += 1,
-            Fate::Unknown => unknown += 1,
+    let mut count: usize = 0;
+    for (_, other) in fates {
+        if is_same(*other, fate) {
+            count += 1;
         }
     }
-    Counts {
-        orphan: orphan as u64,
-        kept: kept as u64,
-        unknown: unknown as u64,
-    }
+    count as u64
 }
 
-/// The line of a sweep.
-fn line(alloc: Global, counts: Counts) -> Result<String, OutOfMemory>
-    ensures { IfOk result (λ text. string_bytes text ≡
-        line_of counts.orphan counts.kept counts.unknown) }
+/// Appends a word and a number.
+fn push_count(alloc: Global, text: &mut String, word: &str, count: u64) -> Result<(), OutOfMemory>
+    ensures { OnOk result (string_bytes text.new ≡
+        string_bytes text.old ++ word.now ++ decimal count) }
 {
-    let Counts {
-        orphan,
-        kept,
-        unknown,
-    } = counts;
-    format!(in alloc; "swept {orphan} kept {kept} unknown {unknown}\n")
+    let part = format!(in alloc; "{word}{count}")?;
+    text.push_str(part.as_str())?;
+    Ok(())
+}
+
+/// The line with these numbers of files.
+fn line(alloc: Global, swept: u64, kept: u64, unknown: u64) -> Result<String, OutOfMemory>
+    ensures { IfOk result (λ text. string_bytes text ≡ line_of swept kept unknown) }
+{
+    let mut text = String::new(alloc);
+    push_count(alloc, &mut text, "swept ", swept)?;
+    push_count(alloc, &mut text, " kept ", kept)?;
+    push_count(alloc, &mut text, " unknown ", unknown)?;
+    text.push_str("\n")?;
+    Ok(text)
 }
 
 /// Puts the line of a sweep with these fates. Returns why the job ended.
@@ -61,7 +64,10 @@ pub fn tell<K: Sink>(alloc: Global, fates: &[(FileId, Fate)], out: &mut K) -> St
     ensures tells { Tells (swept_line fates.now) (K.held out.old) (K.held out.new) result }
     ensures cause { HasSinkCause (K.fault_count out.old) (K.fault_count out.new) result }
 {
-    let Ok(text) = line(alloc, counts(fates)) else {
+    let swept = count_of(fates, Fate::Orphan);
+    let kept = count_of(fates, Fate::Kept);
+    let unknown = count_of(fates, Fate::Unknown);
+    let Ok(text) = line(alloc, swept, kept, unknown) else {
         return Status::OutOfMemory;
     };
     match put_all(out, text.as_bytes()) {
