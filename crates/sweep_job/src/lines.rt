@@ -1,5 +1,5 @@
 //! What is put of a sweep.
-ghost use Rattle.std.specs.Prelude.{◌≡◌, ◌++◌, IfOk, OnOk, string_bytes};
+ghost use Rattle.std.specs.Prelude.{◌≡◌, ◌++◌, ◌∷◌, [], IfOk, OnOk, string_bytes};
 ghost use Rattle.std.specs.Fmt.{decimal};
 ghost use Rattle.node_jobs.specs.Jobs.{HasSinkCause};
 ghost use Rattle.sweep_job.specs.Lines.{count_of, is_same, line_of, swept_line};
@@ -47,6 +47,14 @@ fn push_count(alloc: Global, text: &mut String, word: &str, count: u64) -> Resul
     Ok(())
 }
 
+/// Appends the end of a line.
+fn push_end(text: &mut String) -> Result<(), OutOfMemory>
+    ensures { OnOk result (string_bytes text.new ≡ string_bytes text.old ++ 10 ∷ []) }
+{
+    text.push_str("\n")?;
+    Ok(())
+}
+
 /// The line with these numbers of files.
 fn line(alloc: Global, swept: u64, kept: u64, unknown: u64) -> Result<String, OutOfMemory>
     ensures { IfOk result (λ text. string_bytes text ≡ line_of swept kept unknown) }
@@ -55,7 +63,7 @@ fn line(alloc: Global, swept: u64, kept: u64, unknown: u64) -> Result<String, Ou
     push_count(alloc, &mut text, "swept ", swept)?;
     push_count(alloc, &mut text, " kept ", kept)?;
     push_count(alloc, &mut text, " unknown ", unknown)?;
-    text.push_str("\n")?;
+    push_end(&mut text)?;
     Ok(text)
 }
 
