@@ -1,0 +1,4 @@
+pub mod Said
+pub mod PrimaryIds
+pub mod FileIds
+pub mod Rows
