@@ -57,7 +57,7 @@ use Rattle.xt_protocol.specs.FileSteps.{ask_comes, primary_hears, message_comes,
 use Rattle.osd_invariants.proofs.StripedAsks.{striped_outcome}
 use Rattle.lease_runs.proofs.LeaseSteps.{expired_keeps}
 use Rattle.time_line.specs.TimeLine.{id_of}
-use Rattle.world_runs.proofs.Lists.{has_in, has_left, has_filter}
+use Rattle.list_said.proofs.Lists.{has_in, has_left, has_filter}
 use Rattle.list_said.proofs.Said.{IsNo, IsNoIfAny, Said, AreSaid, AreMarked, both_marked, no_said, one_more, both_said, joined_said, map_said, said_more, said_of}
 use Rattle.list_said.proofs.PrimaryIds.{wakes_marks, TenureIs, LedSaid, LedSaidIfAny, drawn_said, hears_said, writes_said, wakes_said}
 

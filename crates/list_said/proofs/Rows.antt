@@ -25,7 +25,7 @@ use Rattle.list_laws.specs.Saying.{Says}
 use Rattle.list_laws.proofs.Taken.{step_taken}
 use Rattle.list_laws.proofs.Saying.{row_says}
 use Rattle.listed_leases.specs.LeaseView.{listed_wake}
-use Rattle.world_runs.proofs.Lists.{has_in}
+use Rattle.list_said.proofs.Lists.{has_in}
 use Rattle.list_said.specs.Rows.{is_reply, is_of_rows, OfRows, RowsSay, ListRowsSay}
 use Rattle.list_said.proofs.Said.{UnlessOther, Said, said_of}
 use Rattle.list_said.proofs.PrimaryIds.{IssuedIs, ProgressIs, TenureIs}

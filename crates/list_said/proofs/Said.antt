@@ -23,7 +23,7 @@ use Rattle.xt_protocol.specs.declared.states.PeerState.TheVariants as peer
 use Rattle.xt_protocol.specs.Turns.{joined}
 use Rattle.xt_protocol.specs.Primaries.{if_any, last_sent, last_to_each}
 use Rattle.time_line.specs.TimeLine.{id_of}
-use Rattle.world_runs.proofs.Lists.{has_left, has_right}
+use Rattle.list_said.proofs.Lists.{has_left, has_right}
 
 -- a reply that isn't Ok
 abbrev pub IsNo : Reply → Type 0
