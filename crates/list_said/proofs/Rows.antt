@@ -88,7 +88,7 @@ wake_rows site s m h =
     said_rows s.kept.file.number (wake_of_file site s).turned.marks m.to m.payload
     (said_of Any s.kept.file.number (wake_of_file site s).turned.marks (wake_of_file site s).turned.outs m (wake_is Any site s.kept.file.number s (any_file s)).said h)
 
-expired_rows : (site : Site) (s : FileState) → OfRows (expired site s)
+pub expired_rows : (site : Site) (s : FileState) → OfRows (expired site s)
 expired_rows site s m h =
     said_rows s.kept.file.number (expired site s).turned.marks m.to m.payload
     (said_of Any s.kept.file.number (expired site s).turned.marks (expired site s).turned.outs m (expired_is Any site s.kept.file.number s (any_file s)).said h)
@@ -158,13 +158,16 @@ step_says site s from list content m h = by (step_taken site s from list content
               (all_so site rest.state.kept (list_version s.kept.location) rest.turned.outs says m late)
         ]
 
-listed_wake_rows : (site : Site) (s : FileState) → OfRows (listed_wake site s)
+pub listed_rows : (site : Site) (s : FileState) → OfRows (wake_of_listed site s)
 unfolding wake_of_listed
+listed_rows site s m h = versioned_rows (list_version s.kept.location) (wake_of_file site s).turned.outs (wake_rows site s) m h
+
+listed_wake_rows : (site : Site) (s : FileState) → OfRows (listed_wake site s)
 listed_wake_rows site s m h =
     let e = expired site s in
-    elim (has_in m e.turned.outs (map (as_version (list_version e.state.kept.location)) (wake_of_file site e.state).turned.outs) h) [
+    elim (has_in m e.turned.outs (wake_of_listed site e.state).turned.outs h) [
       | inl early ↦ expired_rows site s m early
-      | inr late ↦ versioned_rows (list_version e.state.kept.location) (wake_of_file site e.state).turned.outs (wake_rows site e.state) m late
+      | inr late ↦ listed_rows site e.state m late
     ]
 
 pub list_rows_say : ListRowsSay
