@@ -676,7 +676,7 @@ module _ (old : Recorded) (numbers : NumbersFit old.catalogue.volumes) (all_chan
 
 -- ---- the step
 
-find_there : (rs : List Running) (r : Running) → Rise rs → Has r rs → running_of rs (file_in r) ≡ Some r
+pub find_there : (rs : List Running) (r : Running) → Rise rs → Has r rs → running_of rs (file_in r) ≡ Some r
 find_there rs r rise h =
     (let at = split rs h in
     subst (λ (xs : List Running). running_of xs (file_in r) ≡ Some r) (sym at.2) (find_over at.0 at.1 r (subst Rise at.2 rise)))

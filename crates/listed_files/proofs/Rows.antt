@@ -202,7 +202,7 @@ module _ (old new : Lists) (grow : Grow old new) where
   listed_more file (Some location) listed = list_more file location listed
 
   below : (version here there : ℕ) → version ≤ here → here ≤ there → version ≤ there
-  below version here there first then = omega (arith, first, then)
+  below version here there first next = omega (arith, first, next)
 
   pub named_more : (file : FileId) (location : Location) → IsListed old file location → IsListed new file location
   named_more file location (inl known) = inl (grow.files file.number (record { file = file; location = location }) known)

@@ -1,0 +1,5 @@
+pub mod Stretches
+pub mod Making
+pub mod Named
+pub mod Listings
+pub mod Steps
