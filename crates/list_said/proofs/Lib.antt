@@ -1,3 +1,4 @@
+pub mod Lists
 pub mod Said
 pub mod PrimaryIds
 pub mod FileIds

@@ -8,6 +8,8 @@ use Rattle.xt_base.specs.declared.ids.FileId.{FileId}
 use Rattle.xt_base.specs.declared.ids.Boot.{Boot}
 use Rattle.xt_messages.specs.declared.event.Event.{Event}
 use Rattle.xt_messages.specs.declared.event.Event.TheVariants as event
+use Rattle.xt_messages.specs.declared.event.Mark.{Mark}
+use Rattle.xt_messages.specs.declared.event.Mark.TheVariants as mark
 use Rattle.xt_messages.specs.declared.message.Msg.{Msg}
 use Rattle.xt_messages.specs.declared.message.Payload.{Payload}
 use Rattle.xt_messages.specs.declared.message.Payload.TheVariants as payload
@@ -16,7 +18,7 @@ use Rattle.xt_messages.specs.declared.record.Record.{Record}
 use Rattle.xt_protocol.specs.FileIds.{is_file}
 use Rattle.xt_protocol.proofs.Folds.{file-itself}
 use Rattle.xt_protocol.specs.Folds.{fold_of, row_in}
-use Rattle.xt_protocol.specs.LeaseRows.{Silent, Awake, awake_at, is_silent}
+use Rattle.xt_protocol.specs.LeaseRows.{Silent, Awake, LeaseState, awake_at, is_silent}
 use Rattle.xt_protocol.specs.Overdue.{expired}
 use Rattle.xt_protocol.specs.Turns.{quiet, the_record}
 use Rattle.xt_protocol.specs.ReplicaRows.{kept_after}
@@ -24,16 +26,18 @@ use Rattle.xt_protocol.specs.FileStates.{FileState, Site, FileStep}
 use Rattle.xt_protocol.specs.OsdSteps.{Outside, OsdState, OsdStep, asks_dir, each_file, file_at, with_file}
 use Rattle.lease_safety.specs.State.{Has}
 use Rattle.osd_invariants.proofs.Kept.{expired_quiet}
+use Rattle.lease_runs.specs.ActsView.{AreActs, MarksAre, no_marks, won, acting}
+use Rattle.lease_runs.specs.LeaseView.{settled_row}
 use Rattle.lease_runs.specs.OsdView.{site_of}
 use Rattle.lease_runs.proofs.OsdLeases.{at_file, file_at-with_file}
-use Rattle.list_rows.specs.ListRows.{is_closed, is_version, list_version, step_of_message, wake_of_listed}
+use Rattle.list_rows.specs.ListRows.{is_version, list_version, step_of_message, wake_of_listed}
 use Rattle.list_rows.specs.ListSteps.{file_named, step_with_lists, taken_awake}
 use Rattle.list_laws.specs.Saying.{IsSo, Says}
 use Rattle.list_invariants.proofs.Gives.{follows_record}
 use Rattle.listed_leases.specs.ActsView.{RecordIs}
 use Rattle.listed_leases.specs.LeaseView.{listed_wake}
 use Rattle.listed_leases.specs.OsdView.{ShowsWake}
-use Rattle.listed_leases.proofs.Acts.{step_rec, wake_rec}
+use Rattle.listed_leases.proofs.Acts.{step_marks, step_rec, wake_marks, wake_rec}
 use Rattle.listed_leases.proofs.Follows.{wake_kept}
 use Rattle.listed_leases.proofs.OsdLeases.{handled, message_step, step_keeps, wake_all_shows, woke_all, woken_step}
 use Rattle.list_said.specs.Rows.{is_of_rows}
@@ -42,7 +46,7 @@ use Rattle.version_leases.specs.Seen.{awake_as, IsPast}
 use Rattle.world_spec.specs.NodeSteps.{one_more}
 use Rattle.listed_files.specs.Known.{Lists, AreRight, PayloadFits, EventFits}
 use Rattle.listed_files.specs.Files.{KeptFits, FileFits, Agrees, OsdFits, Rises, files_of, row_files}
-use Rattle.listed_files.specs.Steps.{GoOn, TellsSo, StepFits}
+use Rattle.listed_files.specs.Steps.{GoOn, TellsSo, AreListless, StepFits}
 use Rattle.listed_files.proofs.Lists.{has_in, has_map}
 use Rattle.listed_files.proofs.Rising.{with_file_has, with_file_rises}
 use Rattle.listed_files.proofs.Woken.{AtMap, found_at, found_nowhere, at_map, mapped_files}
@@ -96,7 +100,47 @@ so_tells lists site node rows row from (payload.Closed file version head) mine h
     (mine, subst (IsPast version) (here ∙ ap (row_in rows) (sym so.0)) (closed_past lists row version fits so.1))
 so_tells lists site node rows row from _ mine here fits so = tt
 
+-- ---- marks
+
+acts_listless : (number : ℕ) (marks : List Mark) → AreActs number marks → AreListless marks
+acts_listless number [] are = tt
+acts_listless number (mark.Active k count write ∷ ms) are = (tt, acts_listless number ms are.1)
+acts_listless number (mark.Issue k count write ∷ ms) are = (tt, acts_listless number ms are.1)
+acts_listless number (mark.Commit k count write ∷ ms) are = (tt, acts_listless number ms are.1)
+acts_listless number (mark.Answer k write count bytes ∷ ms) are = (tt, acts_listless number ms are.1)
+acts_listless number (_ ∷ ms) are = absurd (cc (are.0))
+
+marks_listless : (file : FileId) (l : LeaseState) (marks : List Mark) → MarksAre file l marks → AreListless marks
+marks_listless file l marks (no_marks none) = subst AreListless (sym none) tt
+marks_listless file l marks (won end busy is) = subst AreListless (sym is) (tt, tt)
+marks_listless file l marks (acting is are) = acts_listless file.number marks are
+
 -- ---- the records and messages of a Wake
+
+-- neither part marks where both together mark nothing
+none_first : (xs ys : List Mark) → xs ++ ys ≡ [] → xs ≡ []
+none_first [] ys none = refl
+none_first (x ∷ xs) ys none = absurd (cc)
+
+none_next : (xs ys : List Mark) → xs ++ ys ≡ [] → ys ≡ []
+none_next [] ys none = none
+none_next (x ∷ xs) ys none = absurd (cc)
+
+settled_marks : (site : Site) (files : List FileState) → (each_file (expired site) files).turned.marks ≡ []
+unfolding each_file
+settled_marks site [] = refl
+settled_marks site (s ∷ ss) =
+    ap (λ (ms : List Mark). ms ++ (each_file (expired site) ss).turned.marks)
+    (none_first (expired site s).turned.marks (wake_of_listed site (expired site s).state).turned.marks (wake_marks site s))
+    ∙ settled_marks site ss
+
+woke_marks : (site : Site) (files : List FileState) → (each_file (wake_of_listed site) (each_file (expired site) files).files).turned.marks ≡ []
+unfolding each_file
+woke_marks site [] = refl
+woke_marks site (s ∷ ss) =
+    ap (λ (ms : List Mark). ms ++ (each_file (wake_of_listed site) (each_file (expired site) ss).files).turned.marks)
+    (none_next (expired site s).turned.marks (wake_of_listed site (expired site s).state).turned.marks (wake_marks site s))
+    ∙ woke_marks site ss
 
 settled_rec : (site : Site) (files : List FileState) → (each_file (expired site) files).turned.rec ≡ None
 unfolding each_file
@@ -149,6 +193,7 @@ module _ (times : TimeSettings) (lists : Lists) (right : AreRight lists) (node :
         rises = rises;
         boot = refl;
         goes_on = λ file version past. past;
+        marks = tt;
         payloads = λ m h. absurd h;
         tells = λ m h. absurd h;
       }
@@ -218,6 +263,7 @@ module _ (times : TimeSettings) (lists : Lists) (right : AreRight lists) (node :
           rises = rows_rise records step.turned.rec rises;
           boot = same_boot f.kept msg.payload records step.turned.rec rec_is;
           goes_on = rows_go_on records f.kept msg.payload step.turned.rec here rec_is;
+          marks = marks_listless f.kept.file (settled_row site f).lease step.turned.marks (step_marks site f msg.from msg.list msg.payload);
           payloads = λ m h. elim (list_rows_say.message site f msg.from msg.list msg.payload m h) [
             | inl plain ↦ plain_fits lists m.payload plain
             | inr says ↦ so_fits lists site step.state.kept m.payload says.so
@@ -251,6 +297,12 @@ module _ (times : TimeSettings) (lists : Lists) (right : AreRight lists) (node :
         ap (λ (o : OsdStep). o.turned.rec) whole_wake
         ∙ ap (λ (r : Option Record). the_record r (each_file (wake_of_listed site) (each_file (expired site) s.files).files).turned.rec) (settled_rec site s.files)
         ∙ woke_rec site s.files
+
+    no_marks_then : woke.turned.marks ≡ []
+    no_marks_then =
+        ap (λ (o : OsdStep). o.turned.marks) whole_wake
+        ∙ ap (λ (ms : List Mark). ms ++ (each_file (wake_of_listed site) (each_file (expired site) s.files).files).turned.marks) (settled_marks site s.files)
+        ∙ woke_marks site s.files
 
     woke_file : (k : FileState) → (woke_of k).kept.file ≡ k.kept.file
     woke_file k = ap (λ (r : FileRow). r.file) (wake_kept site k)
@@ -297,6 +349,7 @@ module _ (times : TimeSettings) (lists : Lists) (right : AreRight lists) (node :
           rises = subst (λ (rec : Option Record). Rises (row_files (told rec))) (sym no_rec) rises;
           boot = ap (λ (rec : Option Record). (fold_of (one_more records rec)).boot) no_rec;
           goes_on = λ file version past. subst (λ (rec : Option Record). IsPast version (row_in (told rec) file)) (sym no_rec) past;
+          marks = subst AreListless (sym no_marks_then) tt;
           payloads = λ m h. elim (said m h) [
             | inl e ↦ subst (λ (k : Msg). PayloadFits lists k.payload) (sym e) tt
             | inr plain ↦ plain_fits lists m.payload plain

@@ -209,7 +209,7 @@ module _ (old new : Lists) (grow : Grow old new) where
   named_more file location (inr chosen) =
       inr (grow.chosen file location chosen.0, below location.version (old.reached file.number) (new.reached file.number) chosen.1 (grow.reached file.number))
 
-  want_more : (wanted : MetaReq) → WantFits old wanted → WantFits new wanted
+  pub want_more : (wanted : MetaReq) → WantFits old wanted → WantFits new wanted
   want_more (want.Report capability mark) is = named_more capability.file capability.location is
   want_more _ is = tt
 

@@ -1,10 +1,13 @@
 -- what the steps of an OSD keep, where lists change
 use Rattle.std.specs.Prelude.{◌≡◌, ℕ, List, [], ◌∷◌, ◌++◌}
+use Rattle.std.specs.List.{AllByRecursion}
 use Rattle.xt_base.specs.TimeSettings.{TimeSettings}
 use Rattle.xt_base.specs.declared.ids.NodeId.{NodeId}
 use Rattle.xt_base.specs.declared.ids.FileId.{FileId}
 use Rattle.xt_base.specs.declared.ids.Boot.{Boot}
 use Rattle.xt_messages.specs.declared.event.Event.{Event}
+use Rattle.xt_messages.specs.declared.event.Mark.{Mark}
+use Rattle.xt_messages.specs.declared.event.Mark.TheVariants as mark
 use Rattle.xt_messages.specs.declared.message.Msg.{Msg}
 use Rattle.xt_messages.specs.declared.message.Payload.{Payload}
 use Rattle.xt_messages.specs.declared.message.Payload.TheVariants as payload
@@ -31,6 +34,14 @@ abbrev pub TellsSo : NodeId → List FileRow → NodeId → Payload → Type 0
 TellsSo node rows from (payload.Closed file version head) = (from ≡ node) × IsPast version (row_in rows file)
 TellsSo node rows from _ = Unit {0}
 
+-- a mark that gives a file no list
+abbrev pub IsListless : Mark → Type 0
+IsListless (mark.List file version members) = ⊥
+IsListless _ = Unit {0}
+
+abbrev pub AreListless : List Mark → Type 0
+AreListless marks = AllByRecursion IsListless marks
+
 -- What comes of a step of an OSD: its state and its records fit, and say the same; and what it sends fits.
 pub record StepFits (times : TimeSettings) (lists : Lists) (node : NodeId) (boot : Boot) (clock : ℕ) (records : List Record) (o : OsdStep) : Type 0 where
   pub osd : OsdFits times lists node boot clock o.osd
@@ -38,6 +49,7 @@ pub record StepFits (times : TimeSettings) (lists : Lists) (node : NodeId) (boot
   pub rises : Rises (row_files (fold_of (one_more records o.turned.rec)).files)
   pub boot : (fold_of (one_more records o.turned.rec)).boot ≡ (fold_of records).boot
   pub goes_on : GoOn (fold_of records).files (fold_of (one_more records o.turned.rec)).files
+  pub marks : AreListless o.turned.marks
   pub payloads : (m : Msg) → Has m o.turned.outs → PayloadFits lists m.payload
   pub tells : (m : Msg) → Has m o.turned.outs → TellsSo node (fold_of (one_more records o.turned.rec)).files m.from m.payload
 
