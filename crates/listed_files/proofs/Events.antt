@@ -50,7 +50,7 @@ use Rattle.listed_files.specs.Steps.{GoOn, TellsSo, AreListless, StepFits}
 use Rattle.listed_files.proofs.Lists.{has_in, has_map}
 use Rattle.listed_files.proofs.Rising.{with_file_has, with_file_rises}
 use Rattle.listed_files.proofs.Woken.{AtMap, found_at, found_nowhere, at_map, mapped_files}
-use Rattle.listed_files.proofs.Kept.{row_then, rows_rise, rows_go_on, same_boot}
+use Rattle.listed_files.proofs.Kept.{row_then, rows_rise, rows_go_on, same_boot as boot_same}
 use Rattle.listed_files.proofs.Steps.{step_fits, wake_fits}
 use Rattle.listed_files.proofs.Rows.{at_fits}
 
@@ -191,7 +191,7 @@ module _ (times : TimeSettings) (lists : Lists) (right : AreRight lists) (node :
         osd = record { started = fits.started; last = below; fits = fits.fits; rises = fits.rises };
         agrees = agrees;
         rises = rises;
-        boot = refl;
+        same_boot = refl;
         goes_on = λ file version past. past;
         marks = tt;
         payloads = λ m h. absurd h;
@@ -261,7 +261,7 @@ module _ (times : TimeSettings) (lists : Lists) (right : AreRight lists) (node :
               };
           agrees = agrees_then;
           rises = rows_rise records step.turned.rec rises;
-          boot = same_boot f.kept msg.payload records step.turned.rec rec_is;
+          same_boot = boot_same f.kept msg.payload records step.turned.rec rec_is;
           goes_on = rows_go_on records f.kept msg.payload step.turned.rec here rec_is;
           marks = marks_listless f.kept.file (settled_row site f).lease step.turned.marks (step_marks site f msg.from msg.list msg.payload);
           payloads = λ m h. elim (list_rows_say.message site f msg.from msg.list msg.payload m h) [
@@ -347,7 +347,7 @@ module _ (times : TimeSettings) (lists : Lists) (right : AreRight lists) (node :
               };
           agrees = λ file. still_agrees file ∙ ap (λ (rec : Option Record). row_in (told rec) file) (sym no_rec);
           rises = subst (λ (rec : Option Record). Rises (row_files (told rec))) (sym no_rec) rises;
-          boot = ap (λ (rec : Option Record). (fold_of (one_more records rec)).boot) no_rec;
+          same_boot = ap (λ (rec : Option Record). (fold_of (one_more records rec)).boot) no_rec;
           goes_on = λ file version past. subst (λ (rec : Option Record). IsPast version (row_in (told rec) file)) (sym no_rec) past;
           marks = subst AreListless (sym no_marks_then) tt;
           payloads = λ m h. elim (said m h) [

@@ -47,7 +47,7 @@ pub record StepFits (times : TimeSettings) (lists : Lists) (node : NodeId) (boot
   pub osd : OsdFits times lists node boot clock o.osd
   pub agrees : Agrees (one_more records o.turned.rec) o.osd
   pub rises : Rises (row_files (fold_of (one_more records o.turned.rec)).files)
-  pub boot : (fold_of (one_more records o.turned.rec)).boot ≡ (fold_of records).boot
+  pub same_boot : (fold_of (one_more records o.turned.rec)).boot ≡ (fold_of records).boot
   pub goes_on : GoOn (fold_of records).files (fold_of (one_more records o.turned.rec)).files
   pub marks : AreListless o.turned.marks
   pub payloads : (m : Msg) → Has m o.turned.outs → PayloadFits lists m.payload

@@ -337,7 +337,7 @@ module _ (key : List ℕ) (times : TimeSettings) (records : List Record) (clock 
               order = order_then key times records clock s happens server fit;
               last = subst (λ (n : ℕ). n ≤ clock) (sym says.last) last_then;
             };
-        records = subst (RecordsFit key times) same_records now_fit;
+        fit = subst (RecordsFit key times) same_records now_fit;
         all = subst (λ (rs : List Record). AllTold key times rs later) same_records all_then;
         some = subst (λ (rs : List Record). SomeTold key times rs entries) same_records some_then;
         payloads = λ files declared m h. subst (λ (rs : List Record). PayloadFits (lists_at key times files rs later) m.payload) same_records (payload_fits files declared m h);

@@ -104,7 +104,7 @@ entries_after key times entries node clock s happens = entries ++ map (entry_of 
 -- trace is as before.
 pub record ServerKeeps (key : List ℕ) (times : TimeSettings) (records : List Record) (clock : ℕ) (entries : List Entry) (node : NodeId) (s : ChangingMrc) (happens : Event) : Type 0 where
   pub server : ServerFits key times (records_after key times records clock s happens) clock (step_with_changes key times s clock happens).server
-  pub records : RecordsFit key times (records_after key times records clock s happens)
+  pub fit : RecordsFit key times (records_after key times records clock s happens)
   pub all : AllTold key times (records_after key times records clock s happens) (entries_after key times entries node clock s happens)
   pub some : SomeTold key times (records_after key times records clock s happens) entries
   pub payloads : (files : List PlacedFile) → AreDeclared files → (m : Msg) → Has m (step_with_changes key times s clock happens).turned.outs

@@ -59,8 +59,8 @@ abbrev pub places : Made → List PlacedFile
 places made = map file_made made
 
 -- What a step gives: the clock is remembered; marks, messages; and the files that are made then are those before it and those that it marks.
-pub record StepSays (last : ℕ) (s : ChangingMrc) (step : ChangingStep) : Type 0 where
-  pub last : step.server.mrc.last ≡ last
+pub record StepSays (now : ℕ) (s : ChangingMrc) (step : ChangingStep) : Type 0 where
+  pub last : step.server.mrc.last ≡ now
   pub marks : Marks step.turned.rec step.turned.marks
   pub outs : AreServed step.turned.outs
   pub made : RisesTo 1000000 s.mrc.catalogue.volumes.next s.mrc.catalogue.made

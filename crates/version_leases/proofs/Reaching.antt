@@ -65,9 +65,9 @@ module _ (g : LeaseSetting) (closed : ℕ → Bool) (world : LeaseWorld) (node :
   put_there x n ne = put-other world.node node.0 n x ne
 
   -- what must be of the state after the step: it started as before, and its row is this one
-  pub record Becomes (after : OsdState) (row : LeaseRow) : Type 0 where
+  pub record Becomes (after : OsdState) (to : LeaseRow) : Type 0 where
     pub start : after.started.start ≡ s.started.start
-    pub row : row_at g.list (file_of g after) ≡ Some row
+    pub row : row_at g.list (file_of g after) ≡ Some to
 
   after_seen : (after : OsdState) (told : Option ℕ) (row : LeaseRow) → Becomes after row → osd_seen g gone told boot clock after ≡ with_row told row
   after_seen after told row becomes =
