@@ -1,5 +1,5 @@
 -- what is in a list
-use Rattle.std.proofs.Common.{◌≡◌, ℕ, zero, suc, inl, inr, List, [], ◌∷◌, ◌++◌, refl, sym, ◌∙◌, Bool, true, false}
+use Rattle.std.proofs.Common.{◌≡◌, ℕ, zero, suc, inl, inr, List, [], ◌∷◌, ◌++◌, refl, ap, sym, ◌∙◌, Bool, true, false}
 use Rattle.std.specs.Prelude.{◌⊎◌, filter, cond}
 use Rattle.lease_safety.specs.State.{Has}
 
@@ -25,6 +25,3 @@ filter_one p x y xs false is h rest = let r = rest h in (inr r.0, r.1)
 pub has_filter : {A : Type 0} (p : A → Bool) (x : A) (xs : List A) → Has x (filter p xs) → Has x xs × (p x ≡ true)
 has_filter p x [] h = absurd h
 has_filter p x (y ∷ xs) h = filter_one p x y xs (p y) refl h (has_filter p x xs)
-
-pub filter_has : {A : Type 0} (p : A → Bool) (x : A) (xs : List A) → Has x xs → p x ≡ true → Has x (filter p xs)
-filter_has p x [] h is = absurd h

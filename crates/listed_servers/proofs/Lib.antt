@@ -3,3 +3,4 @@ pub mod Making
 pub mod Named
 pub mod Listings
 pub mod Steps
+pub mod Growth

@@ -99,7 +99,7 @@ made_found least next (e ∷ es) number m rises there = go (nat_eq number e.0) r
         (ap (λ (b : Bool). if b then Some (file_made e) else file_in (places es) number) (as_told number e.0 e.1.file.number false rises.0 at) ∙ rest.0, omega (arith, first, rest.1))
 
 -- and what is found there was made
-found_place : (least next : ℕ) (es : Made) (number : ℕ) (f : PlacedFile) → RisesTo least next es → file_in (places es) number ≡ Some f
+pub found_place : (least next : ℕ) (es : Made) (number : ℕ) (f : PlacedFile) → RisesTo least next es → file_in (places es) number ≡ Some f
     → (m : MadeFile) × (lookup (nat_eq number) es ≡ Some m) × (f ≡ file_made (number, m))
 unfolding file_in
 found_place least next [] number f rises there = absurd (cc)
@@ -120,7 +120,7 @@ found_place least next (e ∷ es) number f rises there = go (nat_eq number e.0) 
     go false at false at2 h later = later h
 
 -- a number that isn't in the front is looked up in the rest
-file_in-rest : (files more : List PlacedFile) (number : ℕ) → file_in files number ≡ None → file_in (files ++ more) number ≡ file_in more number
+pub file_in-rest : (files more : List PlacedFile) (number : ℕ) → file_in files number ≡ None → file_in (files ++ more) number ≡ file_in more number
 unfolding file_in
 file_in-rest [] more number is = refl
 file_in-rest (x ∷ xs) more number is = at (x.file.number == number) (λ there. file_in-rest xs more number there) is
@@ -129,7 +129,7 @@ file_in-rest (x ∷ xs) more number is = at (x.file.number == number) (λ there.
     at true rest is = absurd cc
     at false rest is = rest is
 
-file_in-has : (files : List PlacedFile) (number : ℕ) (f : PlacedFile) → file_in files number ≡ Some f → Has f files × (f.file.number ≡ number)
+pub file_in-has : (files : List PlacedFile) (number : ℕ) (f : PlacedFile) → file_in files number ≡ Some f → Has f files × (f.file.number ≡ number)
 unfolding file_in
 file_in-has [] number f is = absurd cc
 file_in-has (x ∷ xs) number f is = at (x.file.number == number) refl (λ there. file_in-has xs number f there) is

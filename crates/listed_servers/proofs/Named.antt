@@ -48,7 +48,7 @@ len_left : (xs ys : List ℕ) → length xs ≤ length (xs ++ ys)
 len_left [] ys = omega arith
 len_left (x ∷ xs) ys = let rest = len_left xs ys in omega (arith, rest)
 
-has_left : (x : Location) (xs ys : List Location) → Has x xs → Has x (xs ++ ys)
+pub has_left : (x : Location) (xs ys : List Location) → Has x xs → Has x (xs ++ ys)
 has_left x [] ys h = absurd h
 has_left x (y ∷ xs) ys (inl e) = inl e
 has_left x (y ∷ xs) ys (inr h) = inr (has_left x xs ys h)
