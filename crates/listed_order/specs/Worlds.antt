@@ -97,25 +97,25 @@ pub record NodeFits (times : TimeSettings) (lists : Lists) (node : Node) : Type 
 -- ---- versions that were left
 
 -- the node is an OSD, whose file has left the version, by what it keeps
-pub record IsPastAt (w : World) (n version : ℕ) (file : FileId) : Type 0 where
+pub record IsPastAt (nodes : List Node) (n version : ℕ) (file : FileId) : Type 0 where
   pub node : Node
-  pub there : node_in w.nodes n ≡ Some node
+  pub there : node_in nodes n ≡ Some node
   pub its : node.role ≡ role.Osd
   pub past : IsPast version (row_in (fold_of node.kept).files file)
 
 -- who says that a file is closed at a version has left it
-abbrev pub TellsAt : World → NodeId → Payload → Type 0
-TellsAt w from (payload.Closed file version head) = IsPastAt w from.0 version file
-TellsAt w from _ = Unit {0}
+abbrev pub TellsAt : List Node → NodeId → Payload → Type 0
+TellsAt nodes from (payload.Closed file version head) = IsPastAt nodes from.0 version file
+TellsAt nodes from _ = Unit {0}
 
 -- and so has each node of which a running server has counted it
-abbrev pub CountedAt : World → Core → Type 0
-CountedAt w (mrc m) = (c : Changing) (report : NodeId × FileHead) → Has c m.running → Has report c.change.reports → IsPastAt w report.0.0 c.change.before.version (file_of c)
-CountedAt w _ = Unit {0}
+abbrev pub CountedAt : List Node → Core → Type 0
+CountedAt nodes (mrc m) = (c : Changing) (report : NodeId × FileHead) → Has c m.running → Has report c.change.reports → IsPastAt nodes report.0.0 c.change.before.version (file_of c)
+CountedAt nodes _ = Unit {0}
 
-abbrev pub CountedBy : World → Option Running → Type 0
-CountedBy w None = Unit {0}
-CountedBy w (Some r) = CountedAt w r.core
+abbrev pub CountedBy : List Node → Option Running → Type 0
+CountedBy nodes None = Unit {0}
+CountedBy nodes (Some r) = CountedAt nodes r.core
 
 -- ---- worlds
 
@@ -123,9 +123,9 @@ CountedBy w (Some r) = CountedAt w r.core
 pub record IsOrdered (w : World) (own : List Msg) : Type 0 where
   pub nodes : (n : ℕ) (node : Node) → node_in w.nodes n ≡ Some node → NodeFits w.times (lists_of w) node
   pub payloads : (m : Msg) → Has m (own ++ messages w) → PayloadFits (lists_of w) m.payload
-  pub tells : (m : Msg) → Has m (own ++ messages w) → TellsAt w m.from m.payload
+  pub tells : (m : Msg) → Has m (own ++ messages w) → TellsAt w.nodes m.from m.payload
   pub declared : AreDeclared w.files
   pub records : RecordsFit world_key w.times (records_of w)
   pub trace : TraceBy w.times (records_of w) w.entries (server_in (node_in w.nodes MRC_NODE.0))
   pub one_server : IsOneServer w.nodes
-  pub counted : CountedBy w (server_in (node_in w.nodes MRC_NODE.0))
+  pub counted : CountedBy w.nodes (server_in (node_in w.nodes MRC_NODE.0))

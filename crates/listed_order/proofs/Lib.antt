@@ -1,0 +1,4 @@
+pub mod Servers
+pub mod Past
+pub mod More
+pub mod Frame
