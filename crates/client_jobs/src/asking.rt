@@ -37,6 +37,9 @@ fn once(alloc: Global, order: &Order) -> Result<Option<MetaReq>, OutOfMemory>
         Order::Stat { path } => Some(MetaReq::Stat {
             path: path.copy(alloc)?,
         }),
+        Order::Replicas { path } => Some(MetaReq::Locate {
+            path: path.copy(alloc)?,
+        }),
         _ => None,
     })
 }

@@ -5,7 +5,9 @@ ghost use Rattle.client_plans.specs.Plans.{goes_by, end_in, end_of};
 ghost use Rattle.client_plans.specs.declared.stage.Stage.TheVariants as next;
 
 use crate::pieces::{end_in, first_in, object_size, piece_length, place_of};
-use crate::showing::{lines_of, nodes_text, number_line, push_line_end, row_line, shown_as};
+use crate::showing::{
+    lines_of, nodes_text, number_line, push_line_end, replicas_line, row_line, shown_as,
+};
 use client_plans::{Goes, Stage};
 use client_rows::CallResult;
 use command_words::Order;
@@ -318,7 +320,7 @@ fn reported(
     }
 }
 
-/// The answer to the only request of a metadata command, which is done: a row is written.
+/// The answer to the only request of a metadata command, which is done: a row, or a file's list, is written.
 fn shown(alloc: Global, answer: &MetaAnswer) -> Result<Goes, OutOfMemory>
     ensures { IfOk result (λ goes. goes ≡ plan.shown answer.now) }
 {
@@ -330,6 +332,9 @@ fn shown(alloc: Global, answer: &MetaAnswer) -> Result<Goes, OutOfMemory>
             mode,
             mark,
         } => Ok(ends_with(row_line(alloc, *kind, *owner, *group, *mode, *mark)?)),
+        MetaAnswer::Located { location, changing } => {
+            Ok(ends_with(replicas_line(alloc, location, *changing)?))
+        }
         _ => Ok(ends(alloc)),
     }
 }

@@ -3,12 +3,12 @@ ghost use Rattle.std.specs.Prelude.{◌≡◌, ◌<◌, ◌++◌, ◌∷◌, [],
 ghost use Rattle.std.specs.BTreeMap.{values};
 ghost use Rattle.std.specs.Fmt.{decimal};
 ghost use Rattle.std.specs.List.{flat_map};
-ghost use Rattle.client_plans.specs.Plans.{hex_digit, hex_pair, hex_text, shown_as, line_end, row_word, row_mark, mode_word, row_line, lines_of, node_line, node_lines, nodes_text};
+ghost use Rattle.client_plans.specs.Plans.{hex_digit, hex_pair, hex_text, shown_as, line_end, row_word, row_mark, mode_word, row_line, spaced_nodes, changing_word, replicas_line, lines_of, node_line, node_lines, nodes_text};
 
 use std::alloc::Global;
 use std::collections::BTreeMap;
-use xt_base::{Name, Octets, OutOfMemory, SizeMark};
-use xt_messages::{RegistryRow, RowKind};
+use xt_base::{Name, NodeId, Octets, OutOfMemory, SizeMark};
+use xt_messages::{Location, RegistryRow, RowKind};
 
 /// The lower-case hex digit of a number below 16.
 fn hex_digit(number: u8) -> u8
@@ -142,6 +142,39 @@ pub fn row_line(
     push_mode(&mut line, mode)?;
     push_spaced(alloc, &mut line, mark.epoch)?;
     push_spaced(alloc, &mut line, mark.size)?;
+    line.push(b'\n')?;
+    Octets::from_vec(line)
+}
+
+/// Appends the numbers of nodes, a space before each.
+fn push_nodes(alloc: Global, out: &mut Vec<u8>, nodes: &[NodeId]) -> Result<(), OutOfMemory>
+    ensures { OnOk result (out.new.items ≡ out.old.items ++ spaced_nodes nodes.now) }
+{
+    for node in nodes {
+        push_spaced(alloc, out, u64::from(node.0))?;
+    }
+    Ok(())
+}
+
+/// The word for a list that is being changed.
+fn changing_word(changing: bool) -> &'static [u8]
+    ensures { result.now ≡ changing_word changing }
+{
+    if changing { b" changing" } else { b"" }
+}
+
+/// The line that shows a file's list: its version, its nodes, and ` changing` while it is being changed.
+pub fn replicas_line(
+    alloc: Global,
+    location: &Location,
+    changing: bool,
+) -> Result<Octets, OutOfMemory>
+    ensures { IfOk result (λ line. line ≡ replicas_line location.now changing) }
+{
+    let mut line = Vec::new(alloc);
+    push_number(alloc, &mut line, u64::from(location.version))?;
+    push_nodes(alloc, &mut line, location.members.as_slice())?;
+    push_bytes(&mut line, changing_word(changing))?;
     line.push(b'\n')?;
     Octets::from_vec(line)
 }

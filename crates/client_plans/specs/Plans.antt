@@ -12,6 +12,7 @@ use Rattle.xt_messages.specs.declared.event.Call.TheVariants as call
 use Rattle.xt_messages.specs.declared.file.Kind.{Kind}
 use Rattle.xt_messages.specs.declared.file.Kind.TheVariants as kind
 use Rattle.xt_messages.specs.declared.file.Capability.{Capability}
+use Rattle.xt_messages.specs.declared.file.Location.{Location}
 use Rattle.xt_messages.specs.declared.meta.MetaReq.{MetaReq}
 use Rattle.xt_messages.specs.declared.meta.MetaReq.TheVariants as meta
 use Rattle.xt_messages.specs.declared.meta.MetaAnswer.{MetaAnswer}
@@ -144,6 +145,18 @@ abbrev pub row_line : RowKind → ℕ → ℕ → ℕ → SizeMark → List ℕ
 row_line kind owner group mode mark =
     row_word kind ++ spaced (decimal owner ∷ decimal group ∷ mode_word mode ∷ decimal mark.epoch ∷ decimal mark.size ∷ []) ++ 10 ∷ []
 
+-- nodes, a space before each
+abbrev pub spaced_nodes : List NodeId → List ℕ
+spaced_nodes nodes = flat_map (λ node. 32 ∷ decimal node.0) nodes
+
+abbrev pub changing_word : Bool → List ℕ
+changing_word true = codes " changing"
+changing_word false = []
+
+-- the line of a file's list: its version, its nodes, and whether it is being changed
+abbrev pub replicas_line : Location → Bool → List ℕ
+replicas_line location changing = decimal location.version ++ spaced_nodes location.members ++ changing_word changing ++ 10 ∷ []
+
 abbrev pub lines_of : List (List ℕ) → List ℕ
 lines_of names = flat_map (λ name. name ++ 10 ∷ []) names
 
@@ -234,6 +247,7 @@ reported wish mark _ = ends_with []
 
 abbrev pub shown : MetaAnswer → Goes
 shown (told.Row kind owner group mode mark) = ends_with (row_line kind owner group mode (row_mark kind mark))
+shown (told.Located location changing) = ends_with (replicas_line location changing)
 shown _ = ends_with []
 
 abbrev pub accepted : Order → Stage → MetaAnswer → Goes
@@ -346,6 +360,7 @@ once (order.Rm path) = Some (meta.Unlink path)
 once (order.Mv from to) = Some (meta.Rename from to)
 once (order.Chmod path mode) = Some (meta.Chmod path mode)
 once (order.Stat path) = Some (meta.Stat path)
+once (order.Replicas path) = Some (meta.Locate path)
 once _ = None
 
 abbrev pub names_above : Order → List ℕ → Option MetaReq

@@ -1,5 +1,5 @@
 -- worked commands: what they ask, what they come to and what they write
-use Rattle.std.specs.Prelude.{◌≡◌, ℕ, true, false, Option, Some, None, List, [], ◌∷◌, ◌++◌, codes, replicate}
+use Rattle.std.specs.Prelude.{◌≡◌, ℕ, Bool, true, false, Option, Some, None, List, [], ◌∷◌, ◌++◌, codes, replicate}
 use Rattle.xt_base.specs.declared.ids.SizeMark.{SizeMark}
 use Rattle.xt_messages.specs.declared.event.Call.TheVariants as call
 use Rattle.xt_messages.specs.declared.file.Kind.TheVariants as kind
@@ -88,6 +88,22 @@ abbrev pub IsStatOfRoot : Type 0
 IsStatOfRoot =
     comes_to (asked_for (order.Stat (codes "/"))) (listed (how.Meta (told.Row row_kind.Directory 0 0 511 (mark_of 5 7)) ∷ []))
     ≡ done (codes "dir 0 0 777 0 0" ++ 10 ∷ [])
+
+-- a file on three OSDs
+abbrev pub located : Bool → List CallResult
+located changing = listed (how.Meta (told.Located (record {
+  version = 2;
+  kind = kind.Replicated;
+  stripe = 131072;
+  members = record { 0 = 3 } ∷ record { 0 = 1 } ∷ record { 0 = 40 } ∷ [];
+}) changing) ∷ [])
+
+-- the nodes of a file's list are shown in their order
+abbrev pub AreLocated : Type 0
+AreLocated =
+    (operation_of (asked_for (order.Replicas (codes "/v/f"))) next.AsksOnce ≡ Some (call.Meta 1 2 (meta.Locate (codes "/v/f"))))
+    × (comes_to (asked_for (order.Replicas (codes "/v/f"))) (located false) ≡ done (codes "2 3 1 40" ++ 10 ∷ []))
+    × (comes_to (asked_for (order.Replicas (codes "/v/f"))) (located true) ≡ done (codes "2 3 1 40 changing" ++ 10 ∷ []))
 
 abbrev pub IsListed : Type 0
 IsListed =

@@ -6,7 +6,7 @@
 
 mod stage;
 
-ghost use Rattle.client_plans.specs.Worked.{IsStat, IsStatOfRoot, IsListed, IsEmptyPut, IsPut, IsExisting, IsGet, IsHexGet, IsPastEnd, IsTruncate, IsRegistered, IsAbsent, IsUnregistered, IsNotThere, AreShown, IsRefused, IsRetried, AsksPages, AsksPieces};
+ghost use Rattle.client_plans.specs.Worked.{IsStat, IsStatOfRoot, AreLocated, IsListed, IsEmptyPut, IsPut, IsExisting, IsGet, IsHexGet, IsPastEnd, IsTruncate, IsRegistered, IsAbsent, IsUnregistered, IsNotThere, AreShown, IsRefused, IsRetried, AsksPages, AsksPieces};
 
 pub use stage::{Goes, Stage};
 
@@ -14,6 +14,7 @@ pub use stage::{Goes, Stage};
 pub fn worked_commands()
     ensures stat { IsStat }
     ensures directory { IsStatOfRoot }
+    ensures located { AreLocated }
     ensures listed { IsListed }
     ensures empty { IsEmptyPut }
     ensures put { IsPut }

@@ -1,7 +1,7 @@
 use Rattle.std.proofs.Common.{refl}
 use Rattle.std.specs.Fmt.{digits}
 use Rattle.client_plans.specs.Plans.{after, goes_by, operation_of}
-use Rattle.client_plans.specs.Worked.{IsStat, IsStatOfRoot, IsListed, IsEmptyPut, IsPut, IsExisting, IsGet, IsHexGet, IsPastEnd, IsTruncate, IsRegistered, IsAbsent, IsUnregistered, IsNotThere, AreShown, IsRefused, IsRetried, AsksPages, AsksPieces}
+use Rattle.client_plans.specs.Worked.{IsStat, IsStatOfRoot, AreLocated, IsListed, IsEmptyPut, IsPut, IsExisting, IsGet, IsHexGet, IsPastEnd, IsTruncate, IsRegistered, IsAbsent, IsUnregistered, IsNotThere, AreShown, IsRefused, IsRetried, AsksPages, AsksPieces}
 use Rattle.client_plans.proofs.worked_commands.Goals as goal
 
 a_stat : IsStat
@@ -11,6 +11,10 @@ a_stat = refl
 a_directory : IsStatOfRoot
 unfolding after goes_by digits
 a_directory = refl
+
+the_replicas : AreLocated
+unfolding after goes_by operation_of digits
+the_replicas = (refl, refl, refl)
 
 a_list : IsListed
 unfolding after goes_by
@@ -84,6 +88,7 @@ pub returns : goal.returns
 returns c = record {
   stat = a_stat;
   directory = a_directory;
+  located = the_replicas;
   listed = a_list;
   empty = an_empty_put;
   put = a_whole_put;
