@@ -4,4 +4,4 @@ use Rattle.client_jobs.proofs.showing.push_nodes.Given as goal
 
 -- the nodes so far are appended
 abbrev pub invariant-loop-node : goal.invariant-loop-node
-invariant-loop-node l = l.out.items ≡ l.out-entry.items ++ spaced_nodes (take l.node-index l.nodes)
+invariant-loop-node l = l.out.items ≡ l.fn.out.items ++ spaced_nodes (take l.node-index l.nodes)
