@@ -1,10 +1,10 @@
-//! `xtfs`: replays a schedule, judges a trace, serves a node, checks a store, carries out a client command, or does all that a cluster is,
-//! as the words of the command line ask.
+//! `xtfs`: replays a schedule, judges a trace, serves a node, checks, scrubs or sweeps a store, carries out a client command, or does all
+//! that a cluster is, as the words of the command line ask.
 //!
 //! `main` makes what stands for the standard streams, a socket, a file, the clock of this machine and its processes, and ends with the status
 //! of `xtfs_run::run`, which does all that the program does. Where the words of the command line are refused, standard error says which
 //! of them and why, and how that command is called. A node isn't started on a store that is another node's by the file beside it, and a
-//! store that isn't there isn't made in order to be checked.
+//! store that isn't there isn't made in order to be worked on.
 #![tactic(auto)]
 
 use command_help::{StoreOwner, StoreUse, options_missing, store_use, told};
@@ -74,7 +74,7 @@ fn is_anothers(rt: &HostRuntime, owner: &StoreOwner) -> io::Result<bool> {
     }
 }
 
-/// The status of the check of a store that can't be opened: that of a disk that has failed.
+/// The status of work on a store that can't be opened: that of a disk that has failed.
 const UNOPENED: u8 = 5;
 
 /// Whether there is no file at this path that can be read. A disk would make one.
@@ -88,12 +88,22 @@ fn is_unopened(rt: &HostRuntime, path: &str) -> io::Result<bool> {
     }
 }
 
-/// The status with which these words end before anything is done: those of a node on another node's store, or of the check of a store that
+/// Whether one of these paths has no file that can be read.
+fn are_unopened(rt: &HostRuntime, paths: &[String]) -> io::Result<bool> {
+    for path in paths {
+        if is_unopened(rt, path.as_str())? {
+            return Ok(true);
+        }
+    }
+    Ok(false)
+}
+
+/// The status with which these words end before anything is done: those of a node on another node's store, or of work on a store that
 /// can't be opened.
 fn ended_early(rt: &HostRuntime, words: &Words) -> io::Result<Option<u8>> {
     let (ends, status) = match store_use(rt.alloc(), words)? {
         StoreUse::Owned(owner) => (is_anothers(rt, &owner)?, ANOTHERS),
-        StoreUse::Checked(path) => (is_unopened(rt, path.as_str())?, UNOPENED),
+        StoreUse::Opened(paths) => (are_unopened(rt, paths.as_slice())?, UNOPENED),
         StoreUse::Unused => (false, 0),
     };
     Ok(if ends { Some(status) } else { None })
