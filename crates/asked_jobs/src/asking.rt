@@ -1,3 +1,4 @@
+//! The job that the words of the command line ask for.
 ghost use Rattle.std.specs.Prelude.{◌≡◌, ◌∷◌, [], false, Some, IfOk, IfSome, codes};
 ghost use Rattle.command_words.specs.declared.job.Job.TheVariants as job;
 ghost use Rattle.command_words.specs.Jobs.{job_of};
@@ -8,7 +9,7 @@ use command_words::{Defaults, Job, Settings, Who, read_words};
 use std::alloc::Global;
 use xt_base::{NodeId, OutOfMemory, Times, Words};
 
-/// What stands for what the words leave out.
+/// The values of what the words leave out.
 pub fn usual() -> Defaults
     ensures { result ≡ usual }
 {
@@ -27,7 +28,7 @@ pub fn usual() -> Defaults
     }
 }
 
-/// What the words ask for, or `None` exactly where they match no command or a value is out of its range. An error means that
+/// What the words ask for, or `None` exactly when they match no command or a value is out of its range. An error means that
 /// memory ran out.
 pub fn asked_job(alloc: Global, words: &Words) -> Result<Option<Job>, OutOfMemory>
     ensures asked { IfOk result (λ asked. asked ≡ job_of usual false words.now) }

@@ -10,7 +10,7 @@ use command_words::{ClientJob, Defaults, Job, read_words};
 use std::alloc::Global;
 use xt_base::{Name, OutOfMemory, Words};
 
-/// The bytes as text, where they are UTF-8.
+/// The bytes as text, if they are UTF-8.
 fn text_of(bytes: &[u8]) -> Option<&str>
     ensures { MatchOption result (is_utf8 bytes.now ≡ false) (λ text. (text.now ≡ bytes.now)
         × (is_utf8 bytes.now ≡ true)) }
@@ -21,7 +21,7 @@ fn text_of(bytes: &[u8]) -> Option<&str>
     }
 }
 
-/// What stands between the spaces of a text.
+/// The words of a text: what is between its spaces.
 fn words_of(alloc: Global, text: &str) -> Result<Words, OutOfMemory>
     ensures { IfOk result (λ words. words ≡ words_in text.now) }
 {
@@ -35,7 +35,7 @@ fn words_of(alloc: Global, text: &str) -> Result<Words, OutOfMemory>
     Ok(words)
 }
 
-/// Whether each of them has a byte.
+/// Whether no word is empty.
 fn are_words(words: &[Name]) -> bool
     ensures { result ≡ list_all is_word words.now }
 {
@@ -59,8 +59,8 @@ fn client_in(job: Option<Job>) -> Option<ClientJob>
     }
 }
 
-/// The client command that a line asks for, without its line feed, or `None` exactly where it asks for none: its words aren't parted by
-/// single spaces, or match no client command, or a value is out of its range. What it leaves out is as in the cluster. An error means
+/// The client command that a line asks for, without its line feed, or `None` exactly when it asks for none: its words aren't separated by
+/// single spaces, or match no client command, or a value is out of its range. What it leaves out has the cluster's value. An error means
 /// that memory ran out.
 pub fn asked_line(
     alloc: Global,

@@ -10,7 +10,7 @@ use std::alloc::Global;
 use xt_base::{Address, Copies, Name, NodeId, Octets, OutOfMemory};
 use xt_messages::{Call, Capability, Kind, MetaReq, RegistryReq};
 
-/// What the commands ask that have one metadata call.
+/// The requests of the commands that have one metadata call.
 fn once(alloc: Global, order: &Order) -> Result<Option<MetaReq>, OutOfMemory>
     ensures { IfOk result (λ request. request ≡ plan.once order.now) }
 {
@@ -58,7 +58,7 @@ fn names_above(alloc: Global, order: &Order, above: &Name) -> Result<Option<Meta
     }
 }
 
-/// How many OSDs a new file lies on, and how.
+/// How many OSDs a new file has, and its layout.
 fn lies_on(layout: &Layout) -> (Kind, u8)
     ensures { result ≡ plan.lies_on layout.now }
 {
@@ -267,7 +267,7 @@ fn request_of(alloc: Global, order: &Order, stage: &Stage) -> Result<Option<Meta
     }
 }
 
-/// The call of a stage; none where the command is over.
+/// The call of a stage; none if the command is over.
 #[tactic(auto, unfolding(client_plans::specs::Plans::operation_of))]
 pub fn operation_of(
     alloc: Global,

@@ -10,7 +10,7 @@ use node_links::Source;
 use std::alloc::Global;
 use xt_base::{Octets, OutOfMemory};
 
-/// Bytes of the pattern, of which each is its place modulo 251: how many they are, and how many of them were taken.
+/// Bytes of the pattern, each of which is its place modulo 251: how many there are, and how many of them were taken.
 #[derive(Clone, Copy)]
 pub struct PatternPieces {
     pub size: u64,
@@ -32,7 +32,7 @@ pub enum ReadErr {
     OutOfMemory,
 }
 
-/// So many bytes of the pattern, from this place on.
+/// `count` bytes of the pattern, from this place on.
 #[tactic(auto, using(crate::proofs::Pattern::pattern_none, crate::proofs::Pattern::pattern_grows))]
 fn pattern(alloc: Global, from: u64, count: u32) -> Result<Octets, OutOfMemory>
     requires { from + count < 18446744073709551616 }
@@ -45,7 +45,7 @@ fn pattern(alloc: Global, from: u64, count: u32) -> Result<Octets, OutOfMemory>
     Octets::from_vec(bytes)
 }
 
-/// Whether a byte is left of a source: where none was read ahead, the source reads.
+/// Whether a source has a byte left. If none was read ahead, the source reads.
 fn is_left<S: Source>(src: &mut S) -> Result<bool, ReadErr>
     ensures left { S.left src.new ≡ S.left src.old }
     ensures more { result ≡ Ok true → 1 ≤ length (S.ahead src.new) }
@@ -62,7 +62,7 @@ fn is_left<S: Source>(src: &mut S) -> Result<bool, ReadErr>
     Ok(!src.ahead().is_empty())
 }
 
-/// Takes what a source has read ahead, so many bytes at most, and appends it.
+/// Takes what a source has read ahead, at most `room` bytes, and appends it.
 fn take_ahead<S: Source>(src: &mut S, bytes: &mut Vec<u8>, room: usize) -> Result<(), OutOfMemory>
     requires some { 1 ≤ length (S.ahead src.old) }
     requires room { 1 ≤ room }
@@ -79,7 +79,7 @@ fn take_ahead<S: Source>(src: &mut S, bytes: &mut Vec<u8>, room: usize) -> Resul
     Ok(())
 }
 
-/// Takes bytes of a source and appends them, at least one and so many at most, or none at its end: whether there was one.
+/// Takes bytes of a source and appends them, 1 to `room`, or none at its end: whether there was one.
 fn take_more<S: Source>(src: &mut S, bytes: &mut Vec<u8>, room: usize) -> Result<bool, ReadErr>
     requires { 1 ≤ room }
     ensures more { IfOk result (λ more.
@@ -100,7 +100,7 @@ fn take_more<S: Source>(src: &mut S, bytes: &mut Vec<u8>, room: usize) -> Result
     }
 }
 
-/// Takes so many bytes of a source, or all where it has fewer.
+/// Takes `room` bytes of a source, or all if it has fewer.
 fn read_piece<S: Source>(alloc: Global, src: &mut S, room: u32) -> Result<Octets, ReadErr>
     ensures taken { IfOk result (λ piece. Takes (S.left src.old) (S.left src.new) piece
         × (length piece ≤ room)) }
@@ -131,14 +131,14 @@ fn read_piece<S: Source>(alloc: Global, src: &mut S, room: u32) -> Result<Octets
 }
 
 impl PatternPieces {
-    /// So many bytes, of which none was taken yet.
+    /// This many bytes, of which none was taken yet.
     pub fn new(size: u64) -> PatternPieces
         ensures { (result.size ≡ size) × (result.taken ≡ 0) }
     {
         PatternPieces { size, taken: 0 }
     }
 
-    /// Takes the next bytes, so many at most.
+    /// Takes the next bytes, at most `room`.
     #[tactic(auto, using(crate::proofs::Pattern::length_pattern, crate::proofs::Pattern::piece_pattern))]
     fn next(&mut self, alloc: Global, room: u32) -> Result<Octets, OutOfMemory>
         ensures piece { IfOk result (λ piece.
@@ -155,7 +155,7 @@ impl PatternPieces {
         Ok(piece)
     }
 
-    /// Takes the piece that a stage asks for, where it asks for one: the stage then.
+    /// Takes the piece that a stage asks for, if any: the stage then.
     pub fn feed(&mut self, alloc: Global, stage: Stage) -> Result<Stage, OutOfMemory>
         ensures stage { IfOk result (λ next. next ≡ plan.with_piece self.old.taken
             (plan.piece_at (pattern_from 0 self.old.size) self.old.taken stage) stage) }
@@ -181,8 +181,8 @@ impl SourcePieces {
         }
     }
 
-    /// Takes the next bytes of the source, so many at most. The source isn't asked again once it was at its end. More bytes than a number
-    /// counts are reported as out of memory.
+    /// Takes the next bytes of the source, at most `room`. The source isn't asked again once it was at its end. More bytes than a number
+    /// can count are reported as out of memory.
     pub fn next<S: Source>(
         &mut self,
         alloc: Global,

@@ -18,7 +18,7 @@ use xt_messages::{
     Capability, MetaAnswer, MetaRefusal, Refusal, RegistryAnswer, RegistryRow, RegistryRows, Status,
 };
 
-/// No node has this number, and all are above it.
+/// A number that no node has, below those of all nodes.
 const NOBODY: NodeId = NodeId(0);
 
 /// The rows of a full page; a page with fewer is the last one.
@@ -246,7 +246,7 @@ fn last_of(alloc: Global, names: &[Name]) -> Result<Name, OutOfMemory>
     }
 }
 
-/// A page of names came: they are written, and the next page is asked for where this one is full.
+/// A page of names came: they are written, and the next page is asked for if this one is full.
 fn names_told(alloc: Global, names: &[Name]) -> Result<Goes, OutOfMemory>
     ensures { IfOk result (λ goes. goes ≡ plan.names_told names.now) }
 {
@@ -393,7 +393,7 @@ fn answered(
     }
 }
 
-/// The node of the last row, `NOBODY` where there is none.
+/// The node of the last row, `NOBODY` if there is none.
 fn last_node(rows: &[RegistryRow]) -> NodeId
     ensures { result ≡ plan.last_node rows.now }
 {
@@ -428,7 +428,7 @@ fn rows_told(
     }
 }
 
-/// The version of the row in an answer, 0 where there is no row.
+/// The version of the row in an answer, 0 if there is no row.
 fn version_told(answer: &RegistryAnswer) -> u64
     ensures { result ≡ plan.version_told answer.now }
 {
@@ -471,7 +471,7 @@ fn joined(
     Ok(all)
 }
 
-/// A page of rows came for a command that shows them, which are these with those before. After the last page of kind 2 (the MRC) those of
+/// A page of rows came for a command that shows them: `told` are all that came so far. After the last page of kind 2 (the MRC) those of
 /// kind 1 (OSDs) are asked for, and after these all rows are shown.
 fn rows_collected(
     alloc: Global,
@@ -560,7 +560,7 @@ fn registered(
     }
 }
 
-/// How a command that asks for this goes on after the result of its operation.
+/// How a command with this order goes on after the result of its operation.
 #[tactic(auto, unfolding(client_plans::specs::Plans::goes_by))]
 pub fn goes_by(
     alloc: Global,

@@ -1,9 +1,9 @@
-//! A client command over a link and a clock: its operations, one after the other, as its plan has them, what it writes, and why it
+//! A client command over a link and a clock: its operations, one after the other, by its plan, what it writes, and why it
 //! ends.
 //!
 //! `run_client` runs one that has a link of its own. `run_line` runs one of a session, whose commands come one after the other over one
-//! end of a link: each goes on with the numbers, the receives and the addresses that the one before it left. `run_lists` makes the lists
-//! alone with which commands begin.
+//! end of a link: each continues with the numbers, the receives and the addresses that the one before it left. `run_lists` makes only the
+//! lists with which commands begin.
 #![tactic(auto)]
 
 mod asking;

@@ -1,4 +1,4 @@
-//! What can be asked: a call that is within the limits of its message.
+//! Which calls can be made: those within the limits of their message.
 ghost use Rattle.std.specs.Prelude.{◌≡◌, ◌≤◌, ◌<◌, ◌^◌, true, nat_le, length};
 ghost use Rattle.xt_base.specs.FieldLimits.{AreBytes, FitsBytes, FitsPath, FitsName};
 ghost use Rattle.xt_messages.specs.Limits.{FitsMembers, FitsMetaReq, FitsRegistryReq, FitsStripe};
@@ -11,7 +11,7 @@ use xt_messages::{AskRefusal, Call, MetaReq, Refusal, RegistryReq, Status};
 /// How many objects a command can write or read. A message has room for greater numbers.
 const NUMBERED: u64 = 1 << 32;
 
-/// Whether there are no more bytes than so many.
+/// Whether there are at most `most` bytes.
 fn are_few(bytes: &[u8], most: usize) -> bool
     ensures value { result ≡ nat_le (length bytes.now) most }
     ensures few { result ≡ true → length bytes.now ≤ most }
@@ -62,7 +62,7 @@ fn are_members(nodes: &[NodeId]) -> bool
     are_nodes(nodes) && Members::new(nodes).is_ok()
 }
 
-/// Whether a command can read so many bytes of an object with this number.
+/// Whether a command can read this many bytes of an object with this number.
 fn is_piece(object: u64, count: u64) -> bool
     ensures value { result ≡ limits.is_piece object count }
     ensures fits { result ≡ true →
@@ -187,7 +187,7 @@ pub fn fits_call(call: &Call) -> bool
     }
 }
 
-/// How a command ends whose next call can't be asked.
+/// How a command ends whose next call can't be made.
 pub fn unasked(call: &Call) -> Status
     ensures { result ≡ limits.unasked call.now }
 {

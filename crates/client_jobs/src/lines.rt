@@ -1,4 +1,4 @@
-//! A command of a session, from its start to its end, and the lists with which commands begin alone.
+//! A command of a session, from its start to its end; and the lists with which commands begin, by themselves.
 ghost use Rattle.std.specs.Prelude.{◌≡◌, ◌≤◌, ℕ};
 ghost use Rattle.client_plans.specs.Plans.{end_of};
 ghost use Rattle.client_jobs.specs.Running.{put_in, client_of, CanAsk, around_of, counts_of};
@@ -26,8 +26,8 @@ fn client_of(alloc: Global, job: &ClientJob, first: u64) -> Client
 /// Runs a client command of a session, which takes nothing of a source: over the session's end of the link, by the clock, which is read
 /// anew, with what it writes and the last line of its status put to the sink. Its first call has the number of that reading, or the one
 /// after all that were used in the session, if that is greater. A command of another client than the session's sends as that one, in a
-/// boot of its own. The times that it names, and the receives where these are fewer than are left, are for it alone. What it hears stays
-/// in the session.
+/// boot of its own. The times that it names, and the number of receives if that is less than what is left, are for it alone. What it
+/// receives stays in the session.
 pub fn run_line<K: Sink, L: Link, C: Clock>(
     alloc: Global,
     job: &ClientJob,
@@ -60,7 +60,7 @@ pub fn run_line<K: Sink, L: Link, C: Clock>(
     status
 }
 
-/// The command that has the lists alone: a registration has no operation after them.
+/// The command that makes only the lists: a registration has no operation after them.
 fn lists_alone(base: &Defaults) -> ClientJob
     ensures { result ≡ spec.lists_alone base.now }
 {
@@ -78,7 +78,7 @@ fn lists_alone(base: &Defaults) -> ClientJob
 }
 
 /// Makes the lists with which commands begin, page by page, and nothing else, with the numbers that follow those of the session's last
-/// command. Where the nodes of their rows are reached is known in the session from then on. It is done, or the status says why the lists
+/// command. The addresses of the nodes in their rows are known in the session from then on. It is done, or the status says why the lists
 /// ended.
 pub fn run_lists<L: Link, C: Clock>(
     alloc: Global,

@@ -1,4 +1,4 @@
-//! Where the pieces of a file lie on its objects.
+//! The pieces of a file: which object has each, and where in it.
 ghost use Rattle.std.specs.Prelude.{◌≡◌, ◌≤◌, ◌+◌, ◌/◌, ◌%◌, max, Option, Some, None};
 ghost use Rattle.client_plans.specs.Plans as plan;
 ghost use Rattle.client_plans.specs.Plans.{object_size, piece_length, first_in, end_in};
@@ -7,7 +7,7 @@ use client_plans::Stage;
 use xt_base::Octets;
 use xt_messages::Capability;
 
-/// The longest file, in bytes, and the end of what `get` shows where no range is named.
+/// The length of the longest file, in bytes, and the end of what `get` shows if no range is named.
 const FILE_END: u64 = 1 << 48;
 
 /// How many bytes an object of a file has: at least one.
@@ -37,7 +37,7 @@ pub fn place_of(stripe: u32, from: u64) -> (u64, u32)
     (from / stripe, (from % stripe) as u32)
 }
 
-/// The first byte of a range, 0 where none is named.
+/// The first byte of a range, 0 if none is named.
 pub fn first_in(range: Option<(u64, u64)>) -> u64
     ensures { result ≡ first_in range }
 {
@@ -47,7 +47,7 @@ pub fn first_in(range: Option<(u64, u64)>) -> u64
     }
 }
 
-/// The place after a range, `FILE_END` where none is named.
+/// The place after a range, `FILE_END` if none is named.
 pub fn end_in(range: Option<(u64, u64)>) -> u64
     requires { end_in range ≤ 281474976710656 }
     ensures { result ≡ end_in range }
@@ -58,7 +58,7 @@ pub fn end_in(range: Option<(u64, u64)>) -> u64
     }
 }
 
-/// How many bytes of what is written come next at most, where so many were taken before.
+/// The greatest number of bytes that the next piece may have, after this many were taken.
 pub fn room_at(taken: u64, stage: &Stage) -> u32
     ensures { result ≡ plan.room_at taken stage.now }
 {
@@ -71,7 +71,7 @@ pub fn room_at(taken: u64, stage: &Stage) -> u32
     }
 }
 
-/// The stage once its piece was taken, after so many bytes.
+/// The stage once its piece was taken, which begins after `taken` bytes.
 pub fn with_piece(taken: u64, piece: Octets, stage: Stage) -> Stage
     ensures { result ≡ plan.with_piece taken piece stage }
 {

@@ -25,16 +25,16 @@ use std::alloc::Global;
 use xt_base::{Address, Boot, COUNTS, NodeId, Octets, Seq};
 use xt_messages::{Call, Limited, Status};
 
-/// What became of an operation.
+/// The outcome of an operation.
 #[derive(Drop)]
 pub enum Advanced {
     /// The command is at this stage now.
     On { stage: Stage },
     /// The stage has no operation.
     Over,
-    /// The operation wasn't carried out, or memory ran out over what it wrote.
+    /// The operation wasn't carried out, or memory ran out while it wrote.
     Ends { status: Status },
-    /// The sink failed over what was to be written; it has had so many faults.
+    /// The sink failed to take what was to be written; this is its count of faults.
     Cut { count: u64 },
 }
 
@@ -46,7 +46,7 @@ pub fn first_number(reading: u64) -> u64
     (reading % (1 << 46)) * 65_536
 }
 
-/// Where a command begins.
+/// The first stage of a command.
 fn begins(alloc: Global, order: &Order) -> Stage
     ensures { result ≡ begins order.now }
 {
@@ -103,7 +103,7 @@ fn put_in(order: &Order) -> Option<Option<u64>>
     }
 }
 
-/// How many bytes of the pattern a command writes to a file: none where it writes those of the source, or nothing.
+/// How many bytes of the pattern a command writes to a file: 0 if it writes those of the source, or nothing.
 #[tactic(auto, unfolding(crate::specs::Content::pattern_from))]
 fn pattern_size(order: &Order) -> u64
     ensures { pattern_from 0 result ≡ bytes_put (spec.put_in order.now) }
@@ -134,7 +134,7 @@ fn session_of(alloc: Global, job: &ClientJob, reading: u64) -> Option<CommandSes
     }
 }
 
-/// The address that a client takes, with a port that the system chooses: one on this machine alone where the directory service has a
+/// The address that a client takes, with a port that the system chooses: one on this machine alone if the directory service has a
 /// loopback address, else one that other machines can reach.
 fn own_address(dir: &Option<Address>) -> &'static str {
     match dir {
@@ -207,7 +207,7 @@ fn begin<L: Link, C: Clock>(
     }
 }
 
-/// Carries a call out over the link, by the clock, with so many tries at most. At `Ok` the client has its result.
+/// Carries a call out over the link, by the clock, with at most `tries` tries. At `Ok` the client has its result.
 fn operate<L: Link, C: Clock>(
     session: &mut CommandSession,
     call: &Call,
@@ -244,7 +244,7 @@ fn operate<L: Link, C: Clock>(
     }
 }
 
-/// Carries out the operation of a stage: how the command goes on then, before a piece is taken. The stage may have none.
+/// Carries out the operation of a stage, if it has one: how the command goes on then, before a piece is taken.
 pub(crate) fn step<L: Link, C: Clock>(
     alloc: Global,
     job: &ClientJob,
@@ -296,7 +296,7 @@ fn has_last_line(status: &Status) -> bool
 }
 
 /// Writes the last line of a status, and returns the status, or that of a failure in writing it. A command that is done has no last line,
-/// and none is written where the sink failed.
+/// and none is written if the sink failed.
 pub fn close<K: Sink>(alloc: Global, out: &mut K, status: Status) -> Status
     ensures { Closes (K.held out.old) (K.held out.new) (K.fault_count out.old)
         (K.fault_count out.new) status result }
@@ -307,7 +307,7 @@ pub fn close<K: Sink>(alloc: Global, out: &mut K, status: Status) -> Status
     finish(alloc, out, status)
 }
 
-/// Carries out the operation of a stage and writes what comes of it.
+/// Carries out the operation of a stage and writes its output.
 fn advance<K: Sink, L: Link, C: Clock>(
     alloc: Global,
     job: &ClientJob,

@@ -1,4 +1,4 @@
-//! What the commands of a session have in common, and on which terms each of them works.
+//! What the commands of a session share, and the terms on which each of them works.
 ghost use Rattle.std.specs.Prelude.{◌≡◌, ◌≤◌, ◌<◌, ◌^◌};
 ghost use Rattle.client_jobs.specs.Running.{new_client};
 ghost use Rattle.client_jobs.specs.Lines as lines;
@@ -10,8 +10,8 @@ use node_mail::Sender;
 use std::alloc::Global;
 use xt_base::Boot;
 
-/// What the commands of a session have in common, which runs them one after the other: an end of the link, and the client of the last
-/// command, after whose numbers the next one's come.
+/// What the commands of a session share, which runs them one after the other: an end of the link, and the client of the last
+/// command, whose numbers the next one continues.
 #[derive(Drop)]
 pub struct CommandSession {
     pub driver: Driver,
@@ -37,7 +37,7 @@ fn is_own(job: &ClientJob, kept: &Terms) -> bool
     job.who.id == kept.sender.node
 }
 
-/// Who sends for a command: another client's messages are numbered from 1, in a boot of its own.
+/// The sender of a command: another client's messages are numbered from 1, in a boot of its own.
 fn sender_for(job: &ClientJob, first: u64, kept: &Terms) -> Sender
     ensures { result ≡ lines.sender_for job.now first kept.now }
 {

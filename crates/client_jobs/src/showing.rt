@@ -209,7 +209,7 @@ pub fn lines_of(alloc: Global, names: &[Name]) -> Result<Octets, OutOfMemory>
     Octets::from_vec(text)
 }
 
-/// The line of a row of the registry: its node, kind, address and version.
+/// The line for a row of the registry: its node, kind, address and version.
 fn node_line(alloc: Global, row: &RegistryRow) -> Result<Octets, OutOfMemory>
     ensures { IfOk result (λ line. line ≡ node_line row.now) }
 {

@@ -1,7 +1,7 @@
-//! What each client command does: its operations, one after the other, each by the results of those before it, and what it writes.
+//! What each client command does: its operations, one after the other, each by the results of the earlier ones, and what it writes.
 //!
 //! A command is a stage and two functions: `operation_of`, the call of a stage, and `goes_on`, the next stage and what is written
-//! after a result. Definitions, the types that they speak of and worked commands; nothing runs here.
+//! after a result. Definitions, their types and worked commands; nothing runs here.
 #![tactic(auto)]
 
 mod stage;
@@ -10,7 +10,7 @@ ghost use Rattle.client_plans.specs.Worked.{IsStat, IsStatOfRoot, AreLocated, Is
 
 pub use stage::{Goes, Stage};
 
-/// Worked commands: what they ask, what they come to and what they write.
+/// Worked commands: what they ask, how they end and what they write.
 pub fn worked_commands()
     ensures stat { IsStat }
     ensures directory { IsStatOfRoot }

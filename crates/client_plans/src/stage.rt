@@ -1,4 +1,4 @@
-//! How far a client command is.
+//! The stages of a client command.
 
 ghost use Rattle.std.specs.Prelude.{◌≡◌};
 ghost use Rattle.client_plans.specs.Plans.{status_at};
@@ -6,7 +6,7 @@ ghost use Rattle.client_plans.specs.Plans.{status_at};
 use xt_base::{Name, NodeId, Octets, SizeMark};
 use xt_messages::{Capability, RegistryRows, Status};
 
-/// How far a command is: which operation is its next one, or how it ended.
+/// A stage of a command: its next operation, or how it ended.
 #[derive(Drop)]
 pub enum Stage {
     /// The rows of a kind, with nodes above this one.
@@ -14,7 +14,7 @@ pub enum Stage {
         kind: u8,
         above: NodeId,
     },
-    /// The rows of a kind, with nodes above this one, for a command that shows them; and those that it was told before.
+    /// The rows of a kind, with nodes above this one, for a command that shows them; and those that came before.
     Collects {
         kind: u8,
         above: NodeId,
@@ -32,7 +32,7 @@ pub enum Stage {
     },
     Creates,
     Grants,
-    /// The next piece of what is written is taken; and the greatest mark that was learnt, as in all stages below.
+    /// The next piece of what is written is taken. The mark is the greatest that was reported, as in all stages below.
     Fetches {
         capability: Capability,
         mark: SizeMark,
@@ -75,7 +75,7 @@ impl Stage {
     }
 }
 
-/// How far a command is after a result, and what it writes then.
+/// The stage of a command after a result, and what it writes then.
 #[derive(Drop)]
 pub struct Goes {
     pub stage: Stage,

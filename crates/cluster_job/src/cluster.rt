@@ -1,3 +1,4 @@
+//! A cluster from its start to its end, phase by phase.
 ghost use Rattle.std.specs.Prelude.{◌≡◌, ◌≤◌, ◌<◌, ◌^◌, ◌+◌, ◌*◌, [], ℕ, List, Option, length, IfOk, OnOk, IfErr};
 ghost use Rattle.node_links.specs.declared.children.ChildCall.{ChildCall};
 ghost use Rattle.cluster_job.specs.Phases as spec;
@@ -16,7 +17,7 @@ use node_links::{Clock, Link, Sink, Source, Spawner};
 use std::alloc::Global;
 use xt_messages::Status;
 
-/// What a line has that doesn't name its own.
+/// The values of what a line leaves out.
 fn base_of(job: &ClusterJob) -> Defaults
     ensures { result ≡ base_of job.now }
 {
@@ -26,7 +27,7 @@ fn base_of(job: &ClusterJob) -> Defaults
     }
 }
 
-/// When the OSDs aren't silent any more, and the MRC has learnt of them at a Wake.
+/// The time at which the OSDs are no longer silent and the MRC has learnt of them at a Wake.
 fn settles_at(job: &ClusterJob, started: u64, registered: u64) -> u64
     requires times { (started < 2 ^ 62) × (registered < 2 ^ 62) }
     ensures { result ≡ spec.settles_at job.now started registered }
@@ -35,7 +36,7 @@ fn settles_at(job: &ClusterJob, started: u64, registered: u64) -> u64
     (started + lease + 2 * drift).max(registered + lease / 8 + drift)
 }
 
-/// Starts the children and hears what comes until they are up, and returns what the clock read when the last one was started. The last
+/// Starts the children and receives what comes until they are up, and returns what the clock read when the last one was started. The last
 /// line of an error was put.
 fn set_up<K: Sink, L: Link, C: Clock, P: Spawner>(
     alloc: Global,
@@ -157,7 +158,7 @@ fn set_up<K: Sink, L: Link, C: Clock, P: Spawner>(
     }
 }
 
-/// Registers the nodes, makes the lists, and hears what comes until the cluster has settled. The last line of an error was put.
+/// Registers the nodes, makes the lists, and receives what comes until the cluster has settled. The last line of an error was put.
 fn settle<K: Sink, L: Link, C: Clock>(
     alloc: Global,
     job: &ClusterJob,
@@ -281,7 +282,7 @@ fn settle<K: Sink, L: Link, C: Clock>(
     }
 }
 
-/// Runs the lines, orders each node to end, and waits for the children. The last line of the status was put, where it has one.
+/// Runs the lines, orders each node to end, and waits for the children. The last line of the status was put, if it has one.
 fn carry_on<S: Source, K: Sink, L: Link, C: Clock, P: Spawner>(
     alloc: Global,
     job: &ClusterJob,
@@ -354,7 +355,7 @@ fn carry_on<S: Source, K: Sink, L: Link, C: Clock, P: Spawner>(
     }
 }
 
-/// Goes as far as it can. The last line of the status was put, where it has one.
+/// Goes through the phases as far as it can. The last line of the status was put, if it has one.
 fn lead<S: Source, K: Sink, L: Link, C: Clock, P: Spawner>(
     alloc: Global,
     job: &ClusterJob,

@@ -1,3 +1,4 @@
+//! The times at which a cluster only receives.
 ghost use Rattle.std.specs.Prelude.{ℕ, List, Option, OnOk, IfErr};
 ghost use Rattle.cluster_job.specs.Phases.{Hears, EndsHearing};
 
@@ -5,7 +6,7 @@ use client_jobs::{CommandSession, status_of};
 use node_links::{Clock, Link};
 use xt_messages::Status;
 
-/// Hears what comes until the clock reads this time or more.
+/// Receives what comes until the clock reads this time or more.
 pub fn listen<L: Link, C: Clock>(
     session: &mut CommandSession,
     until: u64,

@@ -1,3 +1,4 @@
+//! The session of a cluster, and the start of its nodes.
 ghost use Rattle.std.specs.Prelude.{◌≡◌, ◌≤◌, ◌<◌, ◌^◌, ◌∷◌, [], ℕ, List, Option, IfOk, IfErr, OnOk};
 ghost use Rattle.node_links.specs.declared.link.Datagram.{Datagram};
 ghost use Rattle.node_runs.specs.Links.{Reads};

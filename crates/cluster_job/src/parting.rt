@@ -1,3 +1,4 @@
+//! The orders to end, one for each node.
 ghost use Rattle.std.specs.Prelude.{◌≡◌, ◌≤◌, ◌<◌, ◌^◌, length, ℕ, List, Option, IfOk, OnOk, IfErr};
 ghost use Rattle.std.specs.List.{All};
 ghost use Rattle.xt_messages.specs.Limits.{FitsMessage};

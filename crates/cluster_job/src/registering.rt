@@ -1,3 +1,4 @@
+//! The registration of the nodes.
 ghost use Rattle.std.specs.Prelude.{◌≡◌, ◌≢◌, ◌≤◌, ◌<◌, ◌^◌, ℕ, List, Option, IfOk, OnOk, IfErr};
 ghost use Rattle.cluster_job.specs.Registering as spec;
 ghost use Rattle.cluster_job.specs.Registering.{registration_of, RunsLine, IsNotRegistered, HasRegistered, CannotRegister};
@@ -11,7 +12,7 @@ use std::alloc::Global;
 use xt_base::{NodeId, OutOfMemory};
 use xt_messages::Status;
 
-/// A status with which something ended that isn't done.
+/// The status of what ended without being done.
 pub fn unless_done(said: Status) -> Result<(), Status>
     ensures done { OnOk result (said ≡ Status.Done) }
     ensures other { IfErr result (λ why. (why ≡ said) × (said ≢ Status.Done)) }
@@ -32,7 +33,7 @@ fn kind_of(node: ClusterNode) -> u8
     }
 }
 
-/// The command that registers a node where it is to be reached.
+/// The command that registers a node with its address.
 fn registration(
     alloc: Global,
     job: &ClusterJob,

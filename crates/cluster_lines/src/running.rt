@@ -34,7 +34,7 @@ fn ends_cluster(status: &Status) -> bool
     }
 }
 
-/// Puts the code of a line's status. A status comes where the sink failed or memory ran out.
+/// Puts the code of a line's status. It returns a status if the sink failed or memory ran out.
 fn tell<K: Sink>(alloc: Global, out: &mut K, said: &Status) -> Option<Status>
     ensures put { IsPut (K.held out.old) (K.held out.new) (code_line said.now) result }
     ensures cause { CausesPut (K.fault_count out.old) (K.fault_count out.new) result }
@@ -51,7 +51,7 @@ fn tell<K: Sink>(alloc: Global, out: &mut K, said: &Status) -> Option<Status>
     }
 }
 
-/// The command that is asked for by what was taken as a line.
+/// The command that the bytes taken as a line ask for.
 fn asked_by(
     alloc: Global,
     cluster: &Defaults,
@@ -68,7 +68,7 @@ fn asked_by(
     }
 }
 
-/// Runs the command that is asked for, or reports how to use the program where none is.
+/// Runs the command that is asked for, or reports how to use the program if there is none.
 fn answer<K: Sink, L: Link, C: Clock>(
     alloc: Global,
     asked: Option<ClientJob>,
@@ -121,7 +121,7 @@ fn answer<K: Sink, L: Link, C: Clock>(
     }
 }
 
-/// Runs what was taken as a line, and puts its code. A status comes where the lines end in it.
+/// Runs what was taken as a line, and puts its code. It returns a status if the lines end there.
 fn run_text<K: Sink, L: Link, C: Clock>(
     alloc: Global,
     cluster: &Defaults,
@@ -182,7 +182,7 @@ fn run_text<K: Sink, L: Link, C: Clock>(
     tell(alloc, out, &said)
 }
 
-/// Takes the next line and runs it. A status comes where the lines end. `raw` is room for the bytes of the line.
+/// Takes the next line and runs it. It returns a status if the lines end there. `raw` is room for the bytes of the line.
 fn next_line<S: Source, K: Sink, L: Link, C: Clock>(
     alloc: Global,
     cluster: &Defaults,
@@ -270,7 +270,7 @@ fn next_line<S: Source, K: Sink, L: Link, C: Clock>(
     }
 }
 
-/// Ends the lines after as many as there may be.
+/// Ends the lines after the last one that there may be.
 fn past_last<S: Source, K: Sink>(alloc: Global, src: &mut S, out: &mut K) -> Status
     ensures { (cluster : Defaults) (session : CommandSession) (around : Around) (link clock : ℕ) →
         EndsLines cluster LINES
@@ -305,8 +305,8 @@ fn past_last<S: Source, K: Sink>(alloc: Global, src: &mut S, out: &mut K) -> Sta
     }
 }
 
-/// Runs the lines of a source in the cluster's session, one after the other: what a line leaves out is as in the cluster, and after what its
-/// command writes its code is put. It is done at the end of the source. Any other status is why the lines ended; its last line is put.
+/// Runs the lines of a source in the cluster's session, one after the other. What a line leaves out has the cluster's value; after what its
+/// command writes, its code is put. It is done at the end of the source. Any other status says why the lines ended; its last line is put.
 pub fn run_lines<S: Source, K: Sink, L: Link, C: Clock>(
     alloc: Global,
     cluster: &Defaults,

@@ -1,3 +1,4 @@
+//! The nodes of a cluster, with their ports, stores and words.
 ghost use Rattle.std.specs.Prelude.{◌≡◌, ◌≤◌, ◌++◌, OnOk, IfOk, string_bytes};
 ghost use Rattle.std.specs.Fmt.{decimal};
 ghost use Rattle.cluster_words.specs.Children.{local, option_words, number_words, role_words, directory_words, given_words, child_words};
@@ -30,7 +31,7 @@ impl ClusterNode {
         }
     }
 
-    /// Its port, where the DIR has this one.
+    /// Its port, given the DIR's.
     pub fn port(self, first: u16) -> u16
         requires { first ≤ 65000 }
         ensures { result ≡ port_of first self }
@@ -43,7 +44,7 @@ impl ClusterNode {
     }
 }
 
-/// Where a port of this machine is reached.
+/// The text of the address of a port of this machine.
 fn local(alloc: Global, port: u16) -> Result<String, OutOfMemory>
     ensures { IfOk result (λ text. string_bytes text ≡ local port) }
 {
@@ -76,7 +77,7 @@ fn push_option(alloc: Global, words: &mut Words, name: &str, value: &str) -> Res
     words.push(alloc, value)
 }
 
-/// Appends an option whose value is a number, where it was given.
+/// Appends an option whose value is a number, if it was given.
 fn push_number(
     alloc: Global,
     words: &mut Words,
@@ -92,7 +93,7 @@ fn push_number(
     push_option(alloc, words, name, text.as_str())
 }
 
-/// Appends the command, and who an OSD is.
+/// Appends the command, and the number of an OSD.
 fn push_command(alloc: Global, words: &mut Words, node: ClusterNode) -> Result<(), OutOfMemory>
     ensures { OnOk result (words.new ≡ words.old ++ role_words node) }
 {
@@ -106,7 +107,7 @@ fn push_command(alloc: Global, words: &mut Words, node: ClusterNode) -> Result<(
     }
 }
 
-/// Appends where the DIR is, if it isn't the DIR itself that is started.
+/// Appends the address of the DIR, unless it is the DIR itself that is started.
 fn push_directory(
     alloc: Global,
     words: &mut Words,

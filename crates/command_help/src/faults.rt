@@ -6,7 +6,7 @@ use command_words::program;
 use std::alloc::Global;
 use xt_base::OutOfMemory;
 
-/// The first value that isn't one of its argument, and what it should be; an empty text where each is one.
+/// The first value that its argument can't have, and what it should be; an empty text if there is none.
 fn value_fault(alloc: Global, name: &str, found: &ArgMatches<'_>) -> Result<String, OutOfMemory> {
     let all = program(alloc, false)?;
     let Some(command) = all.find_subcommand(name) else {

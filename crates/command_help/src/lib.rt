@@ -1,7 +1,7 @@
 //! What helps a person with the words of a command line: how commands are called, what is wrong with words that were refused, which
 //! options may come from the environment, whose a store is, and which ones are opened. Nothing here is part of what the program promises for
-//! its words: the texts go to standard error, options from the environment are words before `run` sees them, a node on another's store
-//! isn't begun, and neither is work on a store that can't be opened.
+//! its words: the texts go to standard error, options from the environment are added before `run` sees the words, a node on another's store
+//! isn't started, and neither is work on a store that can't be opened.
 #![tactic(auto)]
 
 mod faults;
@@ -18,7 +18,7 @@ use std::alloc::{AllocError, Global};
 pub use stores::{StoreOwner, StoreUse, store_use};
 use xt_base::{Name, OutOfMemory, Words};
 
-/// What stands in the first line of `xtfs --version`.
+/// The first line of `xtfs --version`.
 const VERSION: &str =
     "xtfs, not released yet: frames of version 2, journals of layout 1 (docs/formats.md)\n";
 
@@ -34,7 +34,7 @@ fn command_help(alloc: Global, command: &Command<'_>) -> Result<String, OutOfMem
     alone.render_long_help()
 }
 
-/// The help of the command with this name, or of all where there is none.
+/// The help of the command with this name, or of all commands if there is none.
 fn help_on(alloc: Global, name: &str) -> Result<String, OutOfMemory> {
     let mut all = program(alloc, false)?;
     match all.find_subcommand(name) {
@@ -43,7 +43,7 @@ fn help_on(alloc: Global, name: &str) -> Result<String, OutOfMemory> {
     }
 }
 
-/// Whether the word asks for help, wherever it stands.
+/// Whether the word asks for help, at any place.
 fn asks_for_help(word: &str) -> bool {
     word == "--help" || word == "-h"
 }
@@ -75,7 +75,7 @@ fn texts_of(alloc: Global, words: &[Name]) -> Result<Vec<&str>, OutOfMemory> {
     Ok(texts)
 }
 
-/// What the person reads who gave these words, which ask for nothing that the program does: the help that they ask for, or what is wrong
+/// What a person reads after words that ask for nothing the program does: the help that they ask for, or what is wrong
 /// with which of them, and then how the command is called.
 pub fn told(alloc: Global, words: &Words) -> Result<String, OutOfMemory> {
     let texts = texts_of(alloc, words.as_slice())?;

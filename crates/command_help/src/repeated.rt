@@ -1,10 +1,10 @@
-//! Options that every command of a site repeats: where the words have none, they may come from the environment.
+//! Options that every command of a site repeats: those that the words lack may be set in the environment.
 
 use command_words::program;
 use std::alloc::Global;
 use xt_base::{OutOfMemory, Words};
 
-/// An option, and the variable of the environment that may stand for it.
+/// An option, and the variable of the environment that may set it.
 #[derive(Clone, Copy)]
 pub struct Repeated {
     pub option: &'static str,
@@ -20,7 +20,7 @@ fn has_option(words: &Words, option: &str) -> bool {
     })
 }
 
-/// The options that the command of these words takes, that the words don't have, and for which the environment may have a value.
+/// The options that the command of these words takes, that the words lack, and that the environment may set.
 pub fn options_missing(alloc: Global, words: &Words) -> Result<Vec<Repeated>, OutOfMemory> {
     let rows = [
         ("dir", "--dir", "XTFS_DIR"),

@@ -1,4 +1,4 @@
-//! Whose a store is: a small file beside it says so. And which stores of stopped nodes are opened.
+//! The owner of a store, which a small file beside it names; and the stores of stopped nodes that are opened.
 
 use crate::texts_of;
 use clap::ArgMatches;
@@ -34,7 +34,7 @@ fn line_of(
     }
 }
 
-/// What the command needs to say of its store.
+/// The owner of the store that the command uses.
 fn owner_in(
     alloc: Global,
     name: &str,
@@ -74,7 +74,7 @@ fn opened_in(alloc: Global, found: &ArgMatches<'_>) -> Result<Vec<String>, OutOf
 /// What these words do to a store.
 #[derive(Drop)]
 pub enum StoreUse {
-    /// They start a node: this stands beside its store.
+    /// They start a node, whose store has this file beside it.
     Owned(StoreOwner),
     /// They open the stores of nodes that have stopped, at these paths.
     Opened(Vec<String>),

@@ -1,10 +1,10 @@
-//! What the values of arguments may be, in the words of a person.
+//! The values that an argument may have, as a person reads them.
 
 use command_words::{is_key, mode_of, number_in};
 use std::alloc::Global;
 use xt_base::OutOfMemory;
 
-/// What a value of an argument may be.
+/// The values that an argument may have.
 #[derive(Clone, Copy)]
 pub(crate) enum Values {
     Number { least: u64, most: u64 },
@@ -19,7 +19,7 @@ fn number(least: u64, most: u64) -> Values {
     Values::Number { least, most }
 }
 
-/// The values of an argument, by the name of its command and its own.
+/// The values that an argument may have, by the name of its command and its own.
 pub(crate) fn values_of(command: &str, id: &str) -> Values {
     if command == "make" && id == "size" {
         return number(0, 4096);
@@ -70,7 +70,7 @@ pub(crate) fn fits(values: Values, text: &str) -> bool {
     }
 }
 
-/// What such a value is.
+/// The description of such a value.
 pub(crate) fn said_of(alloc: Global, values: Values) -> Result<String, OutOfMemory> {
     match values {
         Values::Number { least, most } => { format!(in alloc; "a number from {least} to {most}") }

@@ -22,7 +22,7 @@ pub struct Who {
     pub tries: u32,
 }
 
-/// What stands for an option that isn't given. In a line of a cluster it is what the cluster has.
+/// The values of options that are absent. In a line of a cluster they are the cluster's own.
 #[derive(Clone, Copy)]
 pub struct Defaults {
     pub settings: Settings,
@@ -38,11 +38,11 @@ pub struct Given {
     pub limit: Option<u64>,
 }
 
-/// What each node takes.
+/// The options of a node.
 #[derive(Drop)]
 pub struct Serving {
     pub settings: Settings,
-    /// Where it is reached.
+    /// The address at which it is reached.
     pub listen: Address,
     /// The path of the file that it keeps its records in, at most 65,535 bytes.
     pub store: Name,
@@ -50,12 +50,12 @@ pub struct Serving {
     pub key: Octets,
 }
 
-/// How the objects of a new file lie on 1 to 9 OSDs.
+/// The layout of a new file: how its objects are spread over 1 to 9 OSDs.
 #[derive(Clone, Copy)]
 pub enum Layout {
-    /// Each of so many OSDs has all of them.
+    /// Each of this many OSDs has all of them.
     Replicated(u8),
-    /// Each of so many OSDs has the next one, in turn.
+    /// They go to this many OSDs in turn.
     Striped(u8),
 }
 
@@ -101,7 +101,7 @@ pub enum Order {
     Replicas {
         path: Name,
     },
-    /// Writes the source, or so many bytes of a pattern, to a file, which is made if it is absent. A stripe has 1 to 128 times 1,024
+    /// Writes the source, or this many bytes of a pattern, to a file, which is made if it is absent. A stripe has 1 to 128 times 1,024
     /// bytes.
     Put {
         path: Name,
@@ -109,7 +109,7 @@ pub enum Order {
         layout: Layout,
         stripe: u32,
     },
-    /// The range is the first byte and how many there are, which end at 2^48 at most.
+    /// The range is its first byte and its length, and ends at 2^48 at most.
     Get {
         path: Name,
         range: Option<(u64, u64)>,
@@ -139,7 +139,7 @@ pub struct ClusterJob {
     pub osds: u8,
     /// The port of the DIR, 1 to 65,000. The other nodes have the ports after it.
     pub port: u16,
-    /// What the paths of the stores begin with.
+    /// The prefix of the paths of the stores.
     pub store: Name,
     pub key: Octets,
     pub settings: Settings,

@@ -1,8 +1,8 @@
 //! The words of the command line, and what they ask for.
 //!
 //! `read_words` gives exactly the job that `job_of` defines: that of the command that `clap`'s definition of simple commands
-//! matches to the words, where each value is in its range. A command is a function of `commands.rt`, which makes its grammar, and
-//! one of `reading.rt`, which makes its job; beside each stands its definition in `specs/`.
+//! matches to the words, if each value is in its range. A command is a function of `commands.rt`, which makes its grammar, and
+//! one of `reading.rt`, which makes its job; the definition of each is in `specs/`.
 #![tactic(auto)]
 
 mod commands;

@@ -1,4 +1,4 @@
-//! From what a parse found to a job.
+//! The job of the arguments that a parse found.
 
 ghost use Rattle.std.specs.Prelude.{◌≡◌, ◌≤◌, IfSome, IfOk, codes, option_map};
 ghost use Rattle.clap.specs.Words.{first_of, subcommand_rows_of};
@@ -20,7 +20,7 @@ fn text_at<'a>(found: &ArgMatches<'a>, id: &str) -> Option<&'a str>
     found.get_str(id)
 }
 
-/// The number of an argument, where it is in this range.
+/// The number of an argument, if it is in this range.
 #[tactic(auto, unfolding(crate::specs::Jobs::number_at))]
 fn number_at(found: &ArgMatches<'_>, id: &str, least: u64, most: u64) -> Option<u64>
     ensures value { result ≡ number_at least most id.now (rows_in found.now) }
@@ -32,7 +32,7 @@ fn number_at(found: &ArgMatches<'_>, id: &str, least: u64, most: u64) -> Option<
     }
 }
 
-/// The number of an argument, where it is in this range or wasn't given.
+/// The number of an argument, if it is in this range, or the given one if it is absent.
 #[tactic(auto, unfolding(crate::specs::Jobs::number_or_at, crate::specs::Ranges::number_or))]
 fn number_or_at(
     found: &ArgMatches<'_>,
@@ -49,7 +49,7 @@ fn number_or_at(
     }
 }
 
-/// The number of an argument, where it is in this range, or none where it wasn't given.
+/// The number of an argument, if it is in this range, or none if it is absent.
 #[tactic(auto, unfolding(crate::specs::Jobs::number_if_at, crate::specs::Ranges::number_if))]
 fn number_if_at(found: &ArgMatches<'_>, id: &str, least: u64, most: u64) -> Option<Option<u64>>
     ensures { result ≡ number_if_at least most id.now (rows_in found.now) }
@@ -74,7 +74,7 @@ fn node_at(found: &ArgMatches<'_>, id: &str) -> Option<NodeId>
     }
 }
 
-/// The node that an argument names, or this one where it wasn't given.
+/// The node that an argument names, or the given one if it is absent.
 #[tactic(auto, unfolding(crate::specs::Jobs::node_or_at, crate::specs::Jobs::number_or_at, crate::specs::Ranges::number_or))]
 fn node_or_at(found: &ArgMatches<'_>, id: &str, default: NodeId) -> Option<NodeId>
     ensures { result ≡ node_or_at default id.now (rows_in found.now) }
@@ -88,7 +88,7 @@ fn node_or_at(found: &ArgMatches<'_>, id: &str, default: NodeId) -> Option<NodeI
     }
 }
 
-/// The number of an argument below 2^8, where it is in this range.
+/// The number of an argument below 2^8, if it is in this range.
 fn byte_at(found: &ArgMatches<'_>, id: &str, least: u8, most: u8) -> Option<u8>
     ensures { result ≡ number_at least most id.now (rows_in found.now) }
 {
@@ -98,7 +98,7 @@ fn byte_at(found: &ArgMatches<'_>, id: &str, least: u8, most: u8) -> Option<u8>
     }
 }
 
-/// The number of an argument below 2^16, where it is in this range.
+/// The number of an argument below 2^16, if it is in this range.
 fn short_at(found: &ArgMatches<'_>, id: &str, least: u16, most: u16) -> Option<u16>
     ensures { result ≡ number_at least most id.now (rows_in found.now) }
 {
@@ -108,7 +108,7 @@ fn short_at(found: &ArgMatches<'_>, id: &str, least: u16, most: u16) -> Option<u
     }
 }
 
-/// The number of an argument below 2^32, where it is in this range or wasn't given.
+/// The number of an argument below 2^32, if it is in this range, or the given one if it is absent.
 #[tactic(auto, unfolding(crate::specs::Jobs::number_or_at, crate::specs::Ranges::number_or))]
 fn small_or_at(found: &ArgMatches<'_>, id: &str, least: u32, most: u32, default: u32) -> Option<u32>
     ensures { result ≡ number_or_at least most default id.now (rows_in found.now) }
@@ -169,7 +169,7 @@ fn mode_at(found: &ArgMatches<'_>, id: &str) -> Option<u16>
     }
 }
 
-/// What all nodes and clients take. What isn't given is as here.
+/// The options of all nodes and clients. One that is absent has its value in `base`.
 #[tactic(auto, unfolding(crate::specs::Jobs::settings_of))]
 pub(crate) fn settings_of(base: &Settings, found: &ArgMatches<'_>) -> Option<Settings>
     ensures { result ≡ settings_of base.now (rows_in found.now) }
@@ -186,7 +186,7 @@ pub(crate) fn settings_of(base: &Settings, found: &ArgMatches<'_>) -> Option<Set
     })
 }
 
-/// Who a client is. What isn't given is as here.
+/// Who a client is. An option that is absent has its value in `base`.
 #[tactic(auto, unfolding(crate::specs::Jobs::who_of))]
 pub(crate) fn who_of(base: &Who, found: &ArgMatches<'_>) -> Option<Who>
     ensures { result ≡ who_of base.now (rows_in found.now) }
@@ -363,7 +363,7 @@ fn key_at(alloc: Global, found: &ArgMatches<'_>) -> Result<Option<Octets>, OutOf
     }
 }
 
-/// The key, or none where it wasn't given.
+/// The key, or none if it is absent.
 #[tactic(auto, unfolding(crate::specs::Jobs::key_if_at))]
 fn key_if_at(alloc: Global, found: &ArgMatches<'_>) -> Result<Option<Option<Octets>>, OutOfMemory>
     ensures { IfOk result (λ key. key ≡ key_if_at (rows_in found.now)) }
@@ -377,7 +377,7 @@ fn key_if_at(alloc: Global, found: &ArgMatches<'_>) -> Result<Option<Option<Octe
     }
 }
 
-/// A number below 2^8, where it is in this range, or none where it wasn't given.
+/// A number below 2^8, if it is in this range, or none if it is absent.
 #[tactic(auto, unfolding(crate::specs::Jobs::number_if_at, crate::specs::Ranges::number_if))]
 fn byte_if_at(found: &ArgMatches<'_>, id: &str, least: u8, most: u8) -> Option<Option<u8>>
     ensures { result ≡ number_if_at least most id.now (rows_in found.now) }
@@ -391,7 +391,7 @@ fn byte_if_at(found: &ArgMatches<'_>, id: &str, least: u8, most: u8) -> Option<O
     }
 }
 
-/// How a new file lies: replicated or striped.
+/// The layout of a new file: replicated or striped.
 #[tactic(auto, unfolding(crate::specs::Jobs::layout_at))]
 fn layout_at(found: &ArgMatches<'_>) -> Option<Layout>
     ensures { result ≡ layout_at (rows_in found.now) }
@@ -579,7 +579,7 @@ fn order_of(
     }
 }
 
-/// Where the DIR is reached. A line of a cluster doesn't say it.
+/// The address of the DIR. A line of a cluster doesn't name it.
 #[tactic(auto, unfolding(crate::specs::Jobs::directory_at))]
 fn directory_at(inside: bool, found: &ArgMatches<'_>) -> Option<Option<Address>>
     ensures { result ≡ directory_at inside (rows_in found.now) }
@@ -629,7 +629,7 @@ fn client_of(
     }
 }
 
-/// What each node takes.
+/// The options of a node.
 #[tactic(auto, unfolding(crate::specs::Jobs::serving_of))]
 fn serving_of(
     alloc: Global,

@@ -1,3 +1,4 @@
+//! The job that words ask for, and `run`.
 ghost use Rattle.std.specs.Prelude.{◌≡◌, false, Some};
 ghost use Rattle.command_words.specs.Jobs.{job_of};
 ghost use Rattle.command_words.specs.Worked.{usual};
@@ -22,7 +23,7 @@ use trace_audit::audit_text;
 use xt_base::Words;
 use xt_messages::Status;
 
-/// Does a job that words ask for.
+/// Does a job.
 fn do_job<R: Threads + Sync, S: Source, K: Sink, L: Link, D: Disk, C: Clock, P: Spawner>(
     rt: &R,
     alloc: Global,
@@ -88,7 +89,7 @@ fn do_job<R: Threads + Sync, S: Source, K: Sink, L: Link, D: Disk, C: Clock, P: 
 }
 
 /// Does all that the program does, as its words ask, and hands the disk back. The link isn't bound and the disk has no file before: the job
-/// of a node binds the one and chooses the other. The spawner starts this program again, for the nodes of a cluster.
+/// of a node binds the link and chooses the file. The spawner starts this program again, for the nodes of a cluster.
 pub fn run<R: Threads + Sync, S: Source, K: Sink, L: Link, D: Disk, C: Clock, P: Spawner>(
     rt: &R,
     alloc: Global,

@@ -1,3 +1,4 @@
+//! Serving as a node, and checking a store.
 ghost use Rattle.std.specs.Prelude.{◌≡◌, ◌<◌, ◌≤◌};
 ghost use Rattle.asked_jobs.specs.Asking.{IsSecret};
 ghost use Rattle.node_jobs.specs.Disks.{medium};
