@@ -210,9 +210,15 @@ pub record CannotOperate (c : Command) (before after : Around) (s : CommandState
   pub is : operation_of c.task s.stage ≡ Some asked
   pub ends : CannotCall (call_in s.session asked c.tries) before after left why
 
--- Where memory runs out over an operation or over what is written of it, nothing of that is written.
+-- Memory runs out before the operation of a stage begins, and nothing of it is done; or after it was carried out.
+abbrev pub RunsOut : Command → Around → Around → CommandState → CommandSession → Type 0
+RunsOut c before after s left =
+    ((after ≡ before) × (left ≡ s.session)) ⊎ ((ended : CallResult) × HasOperated c before after s left ended)
+
+-- Where memory runs out over what is to be written of an operation, nothing of that is written.
 abbrev pub EndsAt : Command → Around → Around → CommandState → CommandSession → Status → Type 0
-EndsAt c before after s left why = CannotOperate c before after s left why ⊎ (why ≡ status.OutOfMemory)
+EndsAt c before after s left why =
+    CannotOperate c before after s left why ⊎ ((why ≡ status.OutOfMemory) × RunsOut c before after s left)
 
 -- what the operation of a stage comes to, where there is one: how the command goes on, before a piece is taken, or why it ends
 abbrev pub HasStepped : Command → Around → Around → CommandState → CommandSession → Result (Option Goes) Status → Type 0
@@ -383,6 +389,11 @@ IsEarly (status.ClockFault count) = Unit {0}
 IsEarly status.OutOfMemory = Unit {0}
 IsEarly _ = ⊥
 
+-- its clock was read once where memory ran out, and else not at all
+abbrev pub ReadsEarly : Option (List ℕ) → Option (List ℕ) → Status → Type 0
+ReadsEarly before after status.OutOfMemory = (reading : ℕ) × Reads before after (reading ∷ [])
+ReadsEarly before after _ = after ≡ before
+
 -- it ends so, and nothing of the source was taken
 pub record EndsEarly (after : Around) (before : Around) (left rest held later : Option (List ℕ)) (sink risen : ℕ) (counts now : Counts) (ended : Status)
     : Type 0 where
@@ -390,6 +401,7 @@ pub record EndsEarly (after : Around) (before : Around) (left rest held later : 
   pub whole : rest ≡ left
   pub why : Status
   pub early : IsEarly why
+  pub reads : ReadsEarly before.to_read after.to_read why
   pub cause : HasWhy counts now why
   pub closes : Closes held later sink risen why ended
 

@@ -7,7 +7,7 @@ ghost use Rattle.client_jobs.specs.Content.{pattern_from, HasReadCause};
 ghost use Rattle.client_jobs.specs.Running as spec;
 ghost use Rattle.client_loop.specs.Carrying.{Around};
 ghost use Rattle.client_jobs.specs.Lines.{bytes_put};
-ghost use Rattle.client_jobs.specs.Running.{Command, CommandState, Runs, IsPlanned, HasWhy, first_number, driver_of, client_of, AreAll, command_of, call_in, CannotCall, HasCalled, HasStepped, HasAdvanced, Ends, HasAdvanceCause, has_last_line, Closes, CanAsk, GoesOn, Begins, IsClientJob, IsEarly, CannotTake, around_of, counts_of, outside_of, WorksOver};
+ghost use Rattle.client_jobs.specs.Running.{Command, CommandState, Runs, IsPlanned, HasWhy, ReadsEarly, first_number, driver_of, client_of, AreAll, command_of, call_in, CannotCall, HasCalled, HasStepped, HasAdvanced, Ends, HasAdvanceCause, has_last_line, Closes, CanAsk, GoesOn, Begins, IsClientJob, IsEarly, CannotTake, around_of, counts_of, outside_of, WorksOver};
 
 use crate::asking::operation_of;
 use crate::content::{PatternPieces, ReadErr, SourcePieces};
@@ -159,6 +159,7 @@ fn opened<L: Link, C: Clock>(
     ensures clock_sound { IfOk result (λ reading.
         C.fault_count clock.new ≡ C.fault_count clock.old) }
     ensures early { IfErr result IsEarly }
+    ensures early_reads { IfErr result (ReadsEarly (C.readings clock.old) (C.readings clock.new)) }
     ensures cause { (source : ℕ) → IfErr result (HasWhy
         (counts_of (L.fault_count link.old) (C.fault_count clock.old) source)
         (counts_of (L.fault_count link.new) (C.fault_count clock.new) source)) }
@@ -193,6 +194,7 @@ fn begin<L: Link, C: Clock>(
     ensures sound { IfOk result (λ session. (L.fault_count link.new ≡ L.fault_count link.old)
         × (C.fault_count clock.new ≡ C.fault_count clock.old)) }
     ensures early { IfErr result IsEarly }
+    ensures early_reads { IfErr result (ReadsEarly (C.readings clock.old) (C.readings clock.new)) }
     ensures cause { (source : ℕ) → IfErr result (HasWhy
         (counts_of (L.fault_count link.old) (C.fault_count clock.old) source)
         (counts_of (L.fault_count link.new) (C.fault_count clock.new) source)) }

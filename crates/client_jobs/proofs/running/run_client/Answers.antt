@@ -11,6 +11,7 @@ returns-in-Err g c =
       whole = refl;
       why = c.in-Err.status;
       early = c.in-Err.ensures.early;
+      reads = c.in-Err.ensures.early_reads;
       cause = c.in-Err.ensures.cause (g.S.Source.fault_count c.args.src.now);
       closes = c.close.ensures;
     })
