@@ -16,11 +16,18 @@ TIMES = ["--lease", "1000", "--drift", "100"]
 SERVERS = [("dir", 900), ("mrc", 901)]
 OSDS = [1, 2, 3, 4]
 
+# What `replicas` writes of a file's list, and its status. The second file that is made has the number 1,000,001: of four OSDs its list begins
+# at the second.
+LISTED = ("1 2 3 4\n", 0)
+STRIPED = ("! refused notreplicated\n", 21)
+
+
 # The commands on a file that is made in this way, with what each writes and its status.
-def session(path, name, layout):
+def session(path, name, layout, replicas):
     get = ["get", path, "--at", "131071", "--len", "3", "--hex"]
     return [
         (["put", path, *layout, "--pattern", "300000"], "300000\n", 0),
+        (["replicas", path], *replicas),
         (get, "313233\n", 0),
         (["truncate", path, "131073"], "", 0),
         (get, "3132\n", 0),
@@ -44,8 +51,10 @@ def commands(addresses):
         (["nodes"], registry(addresses, once), 0),
         (["mkdir", "/v"], "", 0),
         (["mkdir", "/v/d"], "", 0),
-        *session("/v/d/f", "f", ["--replicas", "3"]),
-        *session("/v/d/g", "g", ["--striped", "4"]),
+        *session("/v/d/f", "f", ["--replicas", "3"], LISTED),
+        *session("/v/d/g", "g", ["--striped", "4"], STRIPED),
+        (["replicas", "/v/d"], "! refused isdir\n", 21),
+        (["replicas", "/v/d/h"], "! refused notfound\n", 21),
         (["unregister", "4"], "", 0),
         (["nodes"], registry(addresses, {node: 1 for node in addresses if node != 4}), 0),
         (["unregister", "4"], "! refused absent\n", 21),
