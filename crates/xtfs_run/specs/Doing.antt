@@ -22,7 +22,9 @@ use Rattle.client_jobs.specs.Running.{IsClientJob}
 use Rattle.cluster_job.specs.Cluster.{IsClusterJob}
 use Rattle.xtfs_run.specs.Around.{Environment, IsUnread, IsAlone, IsChildless, IsOffline, outside, around, counts, moment}
 use Rattle.xtfs_run.specs.Nodes.{NodeCounts, IsNodeCommand}
-use Rattle.xtfs_run.specs.Stores.{IsCheckCommand}
+use Rattle.check_job.specs.Checking.{IsCheck}
+use Rattle.scrub_job.specs.Scrubbing.{IsScrub}
+use Rattle.xtfs_run.specs.Stores.{StoreJob, IsStoreCommand}
 
 module _ {D : Type 0} where
   -- the last line of a status is put, and nothing else is done
@@ -62,9 +64,9 @@ module _ {D : Type 0} where
     pub unread : IsUnread before after
     pub childless : IsChildless before after
 
-  -- a store is loaded and reported, and nothing is written to it
-  pub record Checks (m : Medium D) (limit : ℕ) (before after : Environment D) (said : Status) : Type 0 where
-    pub check : IsCheckCommand m limit before.disk after.disk before.held after.held before.sink_faults after.sink_faults said
+  -- the store of a stopped node is worked on
+  pub record WorksOnStore (works : StoreJob D) (before after : Environment D) (said : Status) : Type 0 where
+    pub command : IsStoreCommand works before.disk after.disk before.held after.held before.sink_faults after.sink_faults said
     pub unread : IsUnread before after
     pub offline : IsOffline before after
     pub childless : IsChildless before after
@@ -96,7 +98,9 @@ module _ {D : Type 0} where
     serves_osd : (id : NodeId) (directory : List ℕ) (serving : Serving) → asked ≡ Some (job.Osd id directory serving)
         → Serves m (osd_job id directory serving) before after said → Does m asked before after said
     checks : (store : List ℕ) (limit : ℕ) → asked ≡ Some (job.Check store limit)
-        → Checks m limit before after said → Does m asked before after said
+        → WorksOnStore (IsCheck m limit) before after said → Does m asked before after said
+    scrubs : (store : List ℕ) (limit : ℕ) → asked ≡ Some (job.Scrub store limit)
+        → WorksOnStore (IsScrub m limit) before after said → Does m asked before after said
     clusters : (cluster : ClusterJob) → asked ≡ Some (job.Cluster cluster)
         → Clusters cluster before after said → Does m asked before after said
     commands : (client : ClientJob) → asked ≡ Some (job.Client client)

@@ -1,6 +1,6 @@
 use Rattle.std.proofs.Common.{rules, Some, refl, ap, subst}
 use Rattle.asked_jobs.specs.Asking.{IsWithin}
-use Rattle.xtfs_run.specs.Doing.{replays, audits, makes, serves_directory, serves_metadata, serves_osd, checks, clusters, commands}
+use Rattle.xtfs_run.specs.Doing.{replays, audits, makes, serves_directory, serves_metadata, serves_osd, checks, scrubs, clusters, commands}
 use Rattle.xtfs_run.proofs.Asked.{client_within, cluster_within, ends_in_file, size_within}
 use Rattle.xtfs_run.proofs.doing.do_job.Goals as goal
 
@@ -79,7 +79,16 @@ returns-in-Osd g c =
 pub returns-in-Check : goal.returns-in-Check
 returns-in-Check g c =
     checks c.in-Check.store c.in-Check.limit (ap Some c.in-Check.is) (record {
-      check = c.run_check.ensures;
+      command = c.run_check.ensures;
+      unread = record { left = refl; faults = refl };
+      offline = record { given = refl; sent = refl; losses = refl; readings = refl; link_faults = refl; clock_faults = refl };
+      childless = record { calls = refl; faults = refl };
+    })
+
+pub returns-in-Scrub : goal.returns-in-Scrub
+returns-in-Scrub g c =
+    scrubs c.in-Scrub.store c.in-Scrub.limit (ap Some c.in-Scrub.is) (record {
+      command = c.run_scrub.ensures;
       unread = record { left = refl; faults = refl };
       offline = record { given = refl; sent = refl; losses = refl; readings = refl; link_faults = refl; clock_faults = refl };
       childless = record { calls = refl; faults = refl };

@@ -5,6 +5,6 @@ returns g c = record {
   said = c.check_store-said.result.0;
   put = g.K.Sink.held c.check_store-said.new.out;
   failed = g.K.Sink.fault_count c.check_store-said.new.out;
-  checked = c.check_store-said.ensures;
+  worked = c.check_store-said.ensures;
   closes = c.close.ensures;
 }
