@@ -74,6 +74,7 @@ ends_with 0 put /docs/first --replicas 3 --pattern 100000
 echo '# the disk of OSD 3 is lost'
 lose 3
 rm osd-3 osd-3.node
+ends_with 0 replicas /docs/first
 ends_with 0 get /docs/first --at 99998 --len 2 --hex
 ends_with 0 unregister 3
 start 4 osd --id 4 --listen "$(at 5)" --store osd-4
@@ -81,6 +82,7 @@ ends_with 0 register 4 1 "$(at 5)"
 ends_with 0 nodes
 sleep 1
 ends_with 0 put /docs/second --replicas 3 --pattern 3
+ends_with 0 replicas /docs/second
 ends_with 0 ls /docs
 
 echo "# a node on another's store"

@@ -57,7 +57,7 @@ in_range =
     codes "scrub --store s" ∷
     codes "scrub --store s --limit 1073741824 --dir 127.0.0.1:7400 --key 00ff --tries 1 --turns 1" ∷
     codes "sweep --store s1 --mrc-store s901 --key 00ff" ∷
-    codes "sweep --mrc-store s901 --store s1 --key 00ff --lease 1 --drift 1 --dir 127.0.0.1:7400 --id 0" ∷
+    codes "sweep --mrc-store s901 --store s1 --key 00ff --lease 3 --drift 1 --dir 127.0.0.1:7400 --id 0" ∷
     codes "register 4294967295 2 127.0.0.1:7401 --dir 127.0.0.1:7400" ∷
     codes "unregister 4294967295 --dir 127.0.0.1:7400" ∷
     codes "nodes --dir 127.0.0.1:7400 --tries 1" ∷
