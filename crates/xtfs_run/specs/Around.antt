@@ -42,14 +42,17 @@ module _ {D : Type 0} where
   moment e =
       record { around = around e; left = e.left; held = e.held; calls = e.calls; counts = counts e; sink = e.sink_faults; child = e.child_faults }
 
-  -- the link and the clock weren't used
+  -- the link wasn't used
   pub record IsOffline (before after : Environment D) : Type 0 where
     pub given : after.given ≡ before.given
     pub sent : after.sent ≡ before.sent
     pub losses : after.losses ≡ before.losses
+    pub faults : after.link_faults ≡ before.link_faults
+
+  -- the clock wasn't used
+  pub record IsTimeless (before after : Environment D) : Type 0 where
     pub readings : after.readings ≡ before.readings
-    pub link_faults : after.link_faults ≡ before.link_faults
-    pub clock_faults : after.clock_faults ≡ before.clock_faults
+    pub faults : after.clock_faults ≡ before.clock_faults
 
   -- no child was started, stopped or waited for
   pub record IsChildless (before after : Environment D) : Type 0 where

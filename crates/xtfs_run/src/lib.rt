@@ -6,5 +6,6 @@
 
 mod doing;
 mod serving;
+mod stores;
 
 pub use doing::run;

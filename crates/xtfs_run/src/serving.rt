@@ -4,21 +4,14 @@ ghost use Rattle.asked_jobs.specs.Asking.{IsSecret};
 ghost use Rattle.node_jobs.specs.Disks.{medium};
 ghost use Rattle.node_jobs.specs.Roles.{dir_job, mrc_job, osd_job};
 ghost use Rattle.xtfs_run.specs.Nodes.{IsNodeCommand};
-ghost use Rattle.check_job.specs.Checking.{IsCheck};
-ghost use Rattle.scrub_job.specs.Scrubbing.{IsScrub};
-ghost use Rattle.xtfs_run.specs.Stores.{IsStoreCommand};
 
-use check_job::check_store;
 use client_jobs::close;
 use command_words::Serving;
 use disk_model::Disk;
 use node_jobs::{serve_directory, serve_metadata, serve_osd};
 use node_links::{Clock, Link, Sink};
-use par_halves::Gate;
-use scrub_job::scrub_store;
 use std::alloc::Global;
-use std::thread::Threads;
-use xt_base::{Address, Name, NodeId};
+use xt_base::{Address, NodeId};
 use xt_messages::Status;
 
 /// Serves the directory, and puts the last line of the status.
@@ -153,41 +146,5 @@ pub fn run_osd<K: Sink, L: Link, D: Disk, C: Clock>(
         result.0 }
 {
     let (said, disk) = serve_osd(alloc, id, serving, dir, out, link, disk, clock);
-    (close(alloc, out, said), disk)
-}
-
-/// Checks a store, and puts the last line of the status.
-pub fn run_check<K: Sink, D: Disk>(
-    alloc: Global,
-    store: &Name,
-    limit: u64,
-    out: &mut K,
-    disk: D,
-) -> (Status, D)
-    ensures { IsStoreCommand
-        (IsCheck (medium D.is_told D.kept D.moment D.left_since D.fault_count) limit)
-        disk result.1 (K.held out.old) (K.held out.new) (K.fault_count out.old)
-        (K.fault_count out.new) result.0 }
-{
-    let (said, disk) = check_store(alloc, store.as_str(), limit, out, disk);
-    (close(alloc, out, said), disk)
-}
-
-/// Scrubs a store, and puts the last line of the status.
-pub fn run_scrub<R: Threads + Sync, K: Sink, D: Disk, G: Gate>(
-    rt: &R,
-    alloc: Global,
-    store: &Name,
-    limit: u64,
-    out: &mut K,
-    disk: D,
-    gate: &G,
-) -> (Status, D)
-    ensures { IsStoreCommand
-        (IsScrub (medium D.is_told D.kept D.moment D.left_since D.fault_count) limit)
-        disk result.1 (K.held out.old) (K.held out.new) (K.fault_count out.old)
-        (K.fault_count out.new) result.0 }
-{
-    let (said, disk) = scrub_store(rt, alloc, store.as_str(), limit, out, disk, gate);
     (close(alloc, out, said), disk)
 }

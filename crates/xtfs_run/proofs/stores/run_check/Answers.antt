@@ -1,4 +1,4 @@
-use Rattle.xtfs_run.proofs.serving.run_check.Goals as goal
+use Rattle.xtfs_run.proofs.stores.run_check.Goals as goal
 
 pub returns : goal.returns
 returns g c = record {
