@@ -10,10 +10,10 @@ ghost use Rattle.object_store.specs.Logs.{places_in};
 ghost use Rattle.object_store.specs.Places.{bytes_at};
 ghost use Rattle.store_compact.specs.Adding.{AreAdded, IsOf, all_copied_of, copied_of, plain};
 
+use body_digests::{BodyDigest, Digests};
 use disk_model::Disk;
 use object_store::{BodyPlace, Copied, Store};
 use object_versions::SoughtBodies;
-use body_digests::{BodyDigest, Digests};
 use replica_records::fold;
 use std::alloc::Global;
 use xt_base::{Copies, FileId, Octets, OutOfMemory};
