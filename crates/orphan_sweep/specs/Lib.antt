@@ -1,0 +1,4 @@
+pub mod Fates
+pub mod Swept
+pub mod Laws
+pub mod Sweeps
