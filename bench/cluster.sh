@@ -14,7 +14,7 @@ program=${1:-$(bash "$here/../tests/build.sh")}
 model=$(mktemp -d)
 trap 'rm -rf "$model"' EXIT
 cat >"$model/model.c" <<'MODEL'
-/* model REPLICAS SIZE COUNT FOLDER: COUNT writes of SIZE bytes to so many replicas, each a process with a socket and a file. */
+/* model REPLICAS SIZE COUNT FOLDER: COUNT writes of SIZE bytes to REPLICAS replicas, each a process with a socket and a file. */
 #include <arpa/inet.h>
 #include <fcntl.h>
 #include <signal.h>
@@ -30,7 +30,7 @@ static int sockets[MOST + 1];
 static struct sockaddr_in places[MOST + 1];
 static char buffer[65536], bytes[1 << 18];
 
-/* Sends a message of so many bytes in parts, each of which begins with the number of its write. */
+/* Sends a message of this many bytes in parts, each of which begins with the number of its write. */
 static void post(int from, int to, int number, size_t size)
 {
     memcpy(bytes, &number, sizeof number);
@@ -41,7 +41,7 @@ static void post(int from, int to, int number, size_t size)
     }
 }
 
-/* Receives until so many bytes of long messages have come, or so many short ones of this write. */
+/* Receives until this many bytes of long messages have come, or this many short ones of this write. */
 static void take(int at, int number, size_t *had, size_t size, int acks)
 {
     while (acks > 0 || *had < size) {

@@ -116,7 +116,7 @@ print(
 
 
 def start(updates):
-    """The seconds in which a store is loaded from the records of so many updates, which are made in memory."""
+    """The seconds in which a store is loaded from the records of this many updates, which are made in memory."""
     begun = time.perf_counter()
     subprocess.run([program, "start", str(updates)], check=True, stdout=subprocess.DEVNULL)
     return time.perf_counter() - begun
@@ -127,7 +127,7 @@ print(f"start from 4,096 updates: {few * 1e3:.1f} ms, from 16,384: {many * 1e3:.
 
 
 def make_store(updates):
-    """Makes the file a store of so many updates of one file, each of a whole object of 128 KiB, and syncs it."""
+    """Makes the file a store of this many updates of one file, each of a whole object of 128 KiB, and syncs it."""
     body = b"x" * 131_072
     with open(path, "wb") as file:
         file.write(b"XTFSJRNL" + (1).to_bytes(4, "big"))

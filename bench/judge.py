@@ -4,7 +4,7 @@ no more of them than the rules say.
     python3 bench/judge.py <TRACE
 
 Prints `safe`, or `! broken CLAUSE ENTRY` for the entry by which the trace is broken first and the least clause there: 5 two nodes hold a
-file, 6 a node acts that doesn't hold it, 8 there are two orders of writes, 9 a write stands twice or was never issued, 11 an answer shows
+file, 6 a node acts that doesn't hold it, 8 there are two orders of writes, 9 a write is in the order twice or was never issued, 11 an answer shows
 another content, 12 a call ends well that wasn't answered so, or before it began. It reads good traces alone: lines aren't tested.
 """
 
@@ -82,7 +82,7 @@ class File:
             self.answers((entry[3], entry[4]), int(entry[5]), raw(entry[6]))
 
     def claims(self, count, write):
-        """The order has so many writes, and this is the last."""
+        """The order has this many writes, and this is the last."""
         if count == len(self.order) + 1:
             call = self.operation(self.begun.get(write))
             if call is None or call[0] == "read" or write in self.order:

@@ -2,8 +2,8 @@
 # What it costs to bring an OSD up to date that was away, by how many objects it lacks of how many that the file has: the instructions of the
 # replay of its catch-up, by callgrind, which doesn't depend on what else the machine does.
 #   bench/osd.sh [PROGRAM]
-# A file of so many objects lies on three OSDs. One of them is away while so many of its objects are written, comes back, and is fed by the
-# primary of a new lease, which a read brings about. What the new lease takes is replayed with an OSD that lacks so many objects, and with one
+# A file of this many objects lies on three OSDs. One of them is away while a number of its objects are written, comes back, and is fed by the
+# primary of a new lease, which a read brings about. What the new lease takes is replayed with an OSD that lacks that many objects, and with one
 # that was away and lacks none; the difference is the feeding. It is printed, in all and for each body that was sent, and beside each
 # pair what ratio it is to have at most: to feed one of many objects is to cost no more than twice one of few, and to feed all
 # grows no faster than n log n. Without valgrind it does nothing, and says so on standard error.

@@ -17,7 +17,7 @@ GETS = 400_000
 
 
 def seconds(nodes, gets):
-    """The processor seconds of a run that registers so many nodes and asks so often."""
+    """The processor seconds of a run that registers this many nodes and asks this often."""
     before = resource.getrusage(resource.RUSAGE_CHILDREN)
     subprocess.run([program, "registry", str(nodes), str(gets)], check=True, stdout=subprocess.DEVNULL)
     after = resource.getrusage(resource.RUSAGE_CHILDREN)

@@ -2,7 +2,7 @@
 
     python3 bench/schedules.py REPLICAS LINES CLIENTS
 
-Prints the schedule of so many lines and clients. REPLICAS is 1 (of two OSDs) or 3.
+Prints the schedule of LINES lines and CLIENTS clients. REPLICAS is 1 (of two OSDs) or 3.
 """
 
 import sys
@@ -35,7 +35,7 @@ def one_replica(length, clients):
 
 
 def settled(calls, messages):
-    """The calls, and lines that deliver so many messages, as many as there are lines in all; the last takes what is left."""
+    """The calls, and lines that deliver this many messages, as many as there are lines in all; the last takes what is left."""
     return calls + ["settle 1"] * (messages - len(calls) - 1) + ["settle 1000"]
 
 
@@ -70,7 +70,7 @@ def three_replicas(length, clients):
 
 
 def many_files(length, files):
-    """One client calls on so many files in turn, and each request and reply is delivered."""
+    """One client calls on this many files in turn, and each request and reply is delivered."""
     lines = ["times 1000 100", "osd 1", "client 10 0", "start 1 0"]
     lines += [f"file {1 + number} rep 4096 1" for number in range(files)]
     lines.append("tick 1100")

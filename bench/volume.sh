@@ -18,7 +18,7 @@ CALLS = {"stat": 300_000, "create": 100_000, "grant": 100_000, "list": 5_000, "r
 
 
 def seconds(call, files, times):
-    """The seconds in which a directory of so many files is filled, and the call is made so many times."""
+    """The seconds in which a directory of this many files is filled, and the call is made this many times."""
     begun = time.perf_counter()
     subprocess.run([program, "volume", call, str(files), str(times)], check=True, stdout=subprocess.DEVNULL)
     return time.perf_counter() - begun

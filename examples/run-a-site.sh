@@ -15,7 +15,7 @@ trap 'kill -9 "${nodes[@]}" 2>/dev/null; rm -rf "$folder"' EXIT
 cd "$folder" || exit 1
 failed=0
 
-# An address of this site: that of its first port, or one so many further.
+# An address of this site: that of its first port, or of one further on.
 at() {
     echo "127.0.0.1:$((port + $1))"
 }

@@ -30,7 +30,7 @@ echo "run.sh: replayed with no proof, in a few minutes (tests/build.sh builds th
 cd "$top/crates/xtfs" || exit 1
 rt try -- replay <"$schedule" 2>"$said"
 status=$?
-# What the kit says is shown only where the program didn't come to its end.
+# What the kit says is shown only if the program didn't end.
 case $(tail -n 1 "$said") in
 'run=ended '*) ;;
 *) cat "$said" >&2 ;;

@@ -65,7 +65,7 @@ LINES = [
 
 
 def free_ports(count):
-    """The first of so many ports that nobody has."""
+    """The first of this many ports that nobody has."""
     for first in range(21000, 60000, count + 7):
         sockets = []
         try:

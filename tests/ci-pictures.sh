@@ -1,5 +1,5 @@
 #!/usr/bin/env bash
-# The built program makes the pictures of examples/ as they stand. Its pictures of all traces of the vectors and examples are XML
+# The built program makes the pictures of examples/ as they are. Its pictures of all traces of the vectors and examples are XML
 # without scripts, in which each entry has a row and bars are where a second model, which is written here, says that nodes hold
 # files. It draws one file alone, and refuses what it should.
 set -u

@@ -289,7 +289,7 @@ with open("/dev/full", "wb") as full:
 
 
 def into_halting(schedule):
-    """A replay whose sink takes what a pipe has room for, and then fails; and what stands in it."""
+    """A replay whose sink takes what a pipe has room for, and then fails; and what is in it."""
     reading, writing = os.pipe()
     os.set_blocking(writing, False)
     ended = run(["replay"], input=schedule, stdout=writing)

@@ -16,7 +16,7 @@ import tempfile
 PROGRAM, STORES = sys.argv[1:]
 NAMES = {"dir": "s900", "mrc": "s901", "osd-1": "s1", "osd-2": "s2", "osd-3": "s3"}
 OLD_KINDS = {3, 4, 5, 10, 11}
-# Writes of whole objects, so many that the stores are compacted.
+# Writes of whole objects, enough that the stores are compacted.
 WRITES = 40
 
 
@@ -39,7 +39,7 @@ LINES = [
 
 
 def free_ports(count):
-    """The first of so many ports that nobody has."""
+    """The first of this many ports that nobody has."""
     for first in range(23000, 60000, count + 7):
         sockets = []
         try:

@@ -1,6 +1,6 @@
 #!/usr/bin/env bash
-# The built program over the vectors, whose traces come of a model that was written apart from it, and over the
-# examples, whose traces were worked out by hand; its audit of traces whose verdicts come of such models too; and generated schedules.
+# The built program over the vectors, whose traces come from a model that was written apart from it, and over the
+# examples, whose traces were worked out by hand; its audit of traces whose verdicts come from such models too; and generated schedules.
 set -u
 here=$(cd "$(dirname "$0")" && pwd)
 program=$(bash "$here/build.sh") || exit 1

@@ -1,16 +1,19 @@
 #!/usr/bin/env bash
-# What a person is told whose words are refused: each wrong command line ends with 2 and `! usage`, and standard error names the wrong word and
-# how the command is called. Options may come from the environment. A node isn't started on another node's store. Ends by itself, in some
-# seconds.
+# What a person is told on standard error. Words that are refused: each wrong command line ends with 2 and `! usage`, and standard error names
+# the wrong word and how the command is called. Options may come from the environment. A node isn't started on another node's store. A
+# node says when it is ready and when it ends; a call of the system that fails is told with its reason; and a status is told with what
+# helps. Ends by itself, in some ten seconds.
 set -u
 here=$(cd "$(dirname "$0")" && pwd)
 program=$(bash "$here/build.sh") || exit 1
-exec timeout 60 python3 - "$program" <<'PYTHON'
+exec timeout 120 python3 - "$program" <<'PYTHON'
 import os
+import re
 import socket
 import subprocess
 import sys
 import tempfile
+import time
 
 PROGRAM = sys.argv[1]
 SITE = ["--dir", "127.0.0.1:9"]
@@ -52,7 +55,15 @@ REFUSED = [
     (["osd", "--id", "1", "--dir", "127.0.0.1:9", "--listen", "127.0.0.1:0", "--store", "s", "--key", "0g"], ["'0g'", "'key'", "hex"]),
     (["osd", *NODE, *SITE], ["--id"]),
     (["make", "7", "4097"], ["'4097'", "'size'", "4096"]),
+    (["ls", "/a", "--dir", "7400"], ["'7400'", "'dir'", "HOST:PORT", "Usage: ls"]),
+    (["ls", "/a", "--dir", "127.0.0.1:70000"], ["'127.0.0.1:70000'", "'dir'"]),
+    (["register", "1", "1", "127.0.0.1", *SITE], ["'127.0.0.1'", "'addr'", "HOST:PORT", "Usage: register"]),
+    (["osd", "--id", "1", *NODE, "--dir", "here"], ["'here'", "'dir'", "Usage: osd"]),
 ]
+
+# The times of the sites here: a lease is over soon.
+SHORT = ["--lease", "400", "--drift", "40"]
+TIME = r"\d{4}-\d\d-\d\dT\d\d:\d\d:\d\dZ"
 
 # Words that ask for help, and what it begins with or has.
 HELP = [
@@ -85,6 +96,92 @@ def free_port():
         return s.getsockname()[1]
 
 
+def started(words, folder):
+    """A node that has said that it is ready."""
+    child = subprocess.Popen([PROGRAM, *words], stdin=subprocess.DEVNULL, stdout=subprocess.PIPE, stderr=subprocess.PIPE, cwd=folder)
+    if not child.stdout.readline().startswith(b"ready "):
+        sys.exit(f"{words} isn't ready")
+    return child
+
+
+def check_calls(folder):
+    """Calls of the system that fail: a bind, an attach, and the start of a child."""
+    node = ["dir", "--key", "00", "--turns", "3", *SHORT]
+    with socket.socket(socket.AF_INET, socket.SOCK_DGRAM) as taken:
+        taken.bind(("127.0.0.1", 0))
+        address = "127.0.0.1:%d" % taken.getsockname()[1]
+        ended = run([*node, "--listen", address, "--store", "taken"], folder)
+        good = ended.returncode == 6 and ended.stdout == b"! link 1\n" and f"cannot bind {address}: Address already in use".encode() in ended.stderr
+        check("an address that another process has", good, ended)
+        port = taken.getsockname()[1]
+        cluster = ["cluster", "--osds", "1", "--port", str(port), "--store", "c", "--key", "00", "--tries", "1", "--lease", "40", "--drift", "4"]
+        if port <= 65_000:
+            ended = run(cluster, folder)
+            good = ended.returncode == 20 and f"cannot bind {address}: Address already in use".encode() in ended.stderr
+            check("a cluster on a port that another process has", good, ended)
+    ended = run([*node, "--listen", "7400", "--store", "malformed"], folder)
+    good = ended.returncode == 6 and ended.stdout == b"! link 1\n" and b"cannot bind 7400: " in ended.stderr
+    check("an address to listen at that is none", good, ended)
+    ended = run([*node, "--listen", "127.0.0.1:0", "--store", "no/folder"], folder)
+    good = ended.returncode == 5 and ended.stdout == b"! disk 1\n" and b"cannot open the store no/folder: No such file or directory" in ended.stderr
+    check("a store in a folder that isn't there", good, ended)
+    first = started(["dir", "--listen", "127.0.0.1:0", "--store", "shared", "--key", "00"], folder)
+    ended = run([*node, "--listen", "127.0.0.1:0", "--store", "shared"], folder)
+    first.kill()
+    first.wait()
+    good = ended.returncode == 5 and ended.stdout == b"! disk 1\n" and b"another process has the store shared" in ended.stderr
+    check("a store that another process has", good, ended)
+    ended = subprocess.run(
+        ["no/program", "cluster", "--osds", "1", "--port", str(min(free_port(), 65_000)), "--store", "d", "--key", "00"],
+        executable=PROGRAM, stdin=subprocess.DEVNULL, capture_output=True, timeout=30, cwd=folder,
+    )
+    good = ended.returncode == 10 and ended.stdout == b"! child 1\n" and b"cannot start no/program: No such file or directory" in ended.stderr
+    check("a program that can't be started again", good, ended)
+
+
+def check_node(folder):
+    """A node is ready, and ends."""
+    ended = run(["dir", "--listen", "127.0.0.1:0", "--store", "n", "--key", "00", "--turns", "3", *SHORT], folder)
+    lines = [f"{TIME} xtfs: dir 900 is ready: it listens at 127.0.0.1:0 and keeps n", f"{TIME} xtfs: dir 900 has ended with status 11", "xtfs: .*--turns.*"]
+    good = ended.returncode == 11 and ended.stdout == b"ready 900\n! turns 3\n" and re.fullmatch("\n".join(lines) + "\n", ended.stderr.decode())
+    check("a node that ends", good, ended)
+
+
+def check_hints(folder):
+    """What helps after a status, at a site whose OSD has another key than its metadata server."""
+    directory, metadata, device = (f"127.0.0.1:{free_port()}" for _ in range(3))
+    site = ["--dir", directory, *SHORT]
+    ended = run(["nodes", *site, "--tries", "1"], folder)
+    check("nobody answers", ended.returncode == 20 and b"--dir" in ended.stderr and b"--id" in ended.stderr, ended)
+    ended = run(["nodes", *SHORT, "--dir", "localhost:9", "--tries", "1"], folder)
+    check("a name", ended.returncode == 20 and b"localhost:9: a name isn't looked up" in ended.stderr, ended)
+    nodes = [
+        started(["dir", "--listen", directory, "--store", "h900", "--key", "00", *SHORT], folder),
+        started(["mrc", "--listen", metadata, "--dir", directory, "--store", "h901", "--key", "00", *SHORT], folder),
+        started(["osd", "--id", "1", "--listen", device, "--dir", directory, "--store", "h1", "--key", "01", *SHORT], folder),
+    ]
+    try:
+        for words in (["register", "901", "2", metadata], ["register", "1", "1", device]):
+            ended = run([*words, *site], folder)
+            check(words, ended.returncode == 0 and ended.stderr == b"", ended)
+        ended = run(["unregister", "7", *site], folder)
+        check("a node that isn't registered", ended.returncode == 21 and b"isn't registered" in ended.stderr, ended)
+        time.sleep(0.2)
+        ended = run(["mkdir", "/v", *site], folder)
+        check("a volume", ended.returncode == 0 and ended.stderr == b"", ended)
+        ended = run(["put", "/f", "--pattern", "3", *site], folder)
+        check("a file that is in no volume", ended.returncode == 21 and ended.stdout == b"! refused namebad\n" and b"volume" in ended.stderr, ended)
+        ended = run(["put", "/v/f", "--replicas", "3", "--pattern", "3", *site], folder)
+        check("too few OSDs", ended.returncode == 21 and ended.stdout == b"! refused toofew 1\n" and b"fewer OSDs" in ended.stderr, ended)
+        ended = run(["put", "/v/f", "--pattern", "3", *site], folder)
+        good = ended.returncode == 21 and ended.stdout == b"! refused denied 1\n" and b"another key" in ended.stderr
+        check("an OSD with another key", good, ended)
+    finally:
+        for node in nodes:
+            node.kill()
+            node.wait()
+
+
 def main():
     with tempfile.TemporaryDirectory() as folder:
         for words, told in REFUSED + HELP:
@@ -92,7 +189,7 @@ def main():
             said = ended.stderr.decode()
             check(words, ended.returncode == 2 and ended.stdout == b"! usage\n" and all(word in said for word in told), ended)
 
-        # Without --dir the words are refused; the variable stands for it, and nobody answers there.
+        # Without --dir the words are refused; the variable sets it, and nobody answers there.
         ended = run(["stat", "/a", "--tries", "1", "--lease", "20", "--drift", "2"], folder, XTFS_DIR=f"127.0.0.1:{free_port()}")
         check("XTFS_DIR", ended.returncode == 20, ended)
         ended = run(["nodes", "--tries", "1", "--lease", "20", "--drift", "2"], folder, XTFS_DIR=f"127.0.0.1:{free_port()}")
@@ -112,7 +209,10 @@ def main():
             check(f"{other} on the store of OSD 1", good and open(store, "rb").read() == before, ended)
         ended = run([*words, "--id", "1"], folder)
         check("the OSD again", ended.returncode == 11, ended)
-    print(f"{len(REFUSED)} wrong command lines, help, the environment, and other nodes' stores: {failures} failed")
+        check_calls(folder)
+        check_node(folder)
+        check_hints(folder)
+    print(f"{len(REFUSED)} wrong command lines, help, the environment, other nodes' stores, failed calls and hints: {failures} failed")
     return 1 if failures else 0
 
 

@@ -3,7 +3,7 @@
 
     tests/clauses-by-kind.py [TYPE..]
 
-The types are those below where none is given. A clause is counted where the kind's constructor stands left of '=': a catch-all isn't one."""
+The types are those below if none is given. A clause is counted if the kind's constructor is left of '=': a catch-all isn't one."""
 
 import collections
 import os

@@ -3,7 +3,7 @@
 # time: schedules, traces and command lines, drawn anew or changed from good ones; stores, cut and changed; datagrams to a running
 # directory service, metadata server and OSD, which have to serve afterwards. Loopback alone.
 #   tests/fuzz.sh [--runs N] [--seed N] [--workers N] [PROGRAM]
-# Ends by itself after so many runs (10,000 where none are given). They are shared among so many workers (one a processor where that isn't
+# Ends by itself after N runs (10,000 if none are given). They are shared among the workers (one for each processor if N isn't
 # given), each of which draws its own inputs from the seed and its number. An input that was found is kept, and reported with what was
 # wrong; the status is then 1.
 set -u
@@ -41,7 +41,7 @@ PROGRAM, HERE, RUNS, SEED, WORKERS = sys.argv[1], sys.argv[2], *map(int, sys.arg
 # a number that was drawn is changed as one again, however many digits it has
 sys.set_int_max_str_digits(0)
 KEPT = tempfile.mkdtemp(prefix="xtfs-found-")
-# A run takes milliseconds; one that takes so many seconds hangs.
+# A run takes milliseconds; one that takes this many seconds hangs.
 PATIENCE = 20
 # So many command lines run at once in a worker: most wait for an answer that nobody gives.
 LINES_AT_ONCE = 32
@@ -337,7 +337,7 @@ class Node:
 
 
 def serves(words, told, tries=1):
-    """Sees that a command is carried out, at the last of so many tries."""
+    """Sees that a command is carried out, at the last of this many tries."""
     for _ in range(tries):
         done = once(words, b"some bytes")
         if done is not None and done[0] == 0:
@@ -394,7 +394,7 @@ def nodes_are_told(rng, folder, count):
 
 
 def stores_are_changed(rng, folder, count):
-    """Starts a node on stores that are cut and changed. It serves from what stands, or says why it doesn't."""
+    """Starts a node on stores that are cut and changed. It serves from what is left, or says why it doesn't."""
     path = os.path.join(folder, "seed")
     words = ["dir", "--listen", "127.0.0.1:0", "--store", path, "--key", "00", "--turns", "1", "--lease", "8", "--drift", "1"]
     for _ in range(4):

@@ -3,7 +3,7 @@
 # all roles, of a replicated file whose primary fails, and of striped files; and nodes over a store, which has to load afterwards.
 #   tests/refused-memory.sh [--most N] [--workers N] [PROGRAM]
 # A job with more than N allocations (2,000 where none is given) is refused the first half of N one by one, and of the others as many,
-# evenly. Each run of a replay, an audit or a generated schedule ends with status 12 and a front of the whole output, after which '! memory'
+# evenly. Each run of a replay, an audit or a generated schedule ends with status 12 and a prefix of the whole output, after which '! memory'
 # may stand, or with the whole output; a node may also tell that its link, its clock or its streams had no memory. Ends by itself, within
 # minutes, and prints counts; the status is 1 where a run ended otherwise. It needs a C compiler: a library that is loaded before the C
 # library's own counts and refuses.
@@ -92,7 +92,7 @@ import sys
 import threading
 
 PROGRAM, TOP, ROOM, MOST, WORKERS = sys.argv[1], sys.argv[2], sys.argv[3], int(sys.argv[4]), int(sys.argv[5])
-# A run takes milliseconds, and a node's a second; one that takes so many seconds hangs.
+# A run takes milliseconds, and a node's a second; one that takes this many seconds hangs.
 PATIENCE = 60
 MEMORY = b"! memory\n"
 wrong = 0

@@ -1,21 +1,38 @@
 //! `xtfs`: replays a schedule, judges a trace, serves a node, checks, scrubs or sweeps a store, carries out a client command, or does all
 //! that a cluster is, as the words of the command line ask.
 //!
-//! `main` makes what stands for the standard streams, a socket, a file, the clock of this machine and its processes, and ends with the status
-//! of `xtfs_run::run`, which does all that the program does. Where the words of the command line are refused, standard error says which
-//! of them and why, and how that command is called. A node isn't started on a store that is another node's by the file beside it, and a
-//! store that isn't there isn't made in order to be worked on.
+//! `main` makes the adapters over the standard streams, a socket, a file, the clock of this machine and its processes, and ends with the
+//! status of `xtfs_run::run`, which does all that the program does. A node isn't started on a store that is another node's by the file
+//! beside it, a store that isn't there isn't made in order to be worked on, and words with an address that isn't one are refused.
+//!
+//! Standard error is for people: which word is wrong and why, and how its command is called; which call of the system failed; when a node is
+//! ready and when it ends; and what the status means and what helps. No status and no byte of the standard output depends on it.
 #![tactic(auto)]
 
-use command_help::{StoreOwner, StoreUse, options_missing, store_use, told};
+mod addresses;
+mod failed_calls;
+mod hearing;
+mod hints;
+mod moment;
+mod progress;
+mod stores;
+mod telling;
+
+use asked_jobs::asked_job;
+use command_help::{options_missing, told};
+use command_words::Job;
 use disk_model::FileDisk;
+use failed_calls::Told;
+use hearing::Hearing;
 use node_links::{ChildSpawner, StdinSource, StdoutSink, SystemClock, UdpLink};
+use progress::{Counted, Progress};
 use std::alloc::Global;
-use std::fs::File;
+use std::env;
 use std::io::{self, ErrorKind};
 use std::process::ExitCode;
-use std::{env, fs};
-use xt_base::Words;
+use stores::ended_early;
+use telling::{is_unreachable, ready_text, shows_progress, tell_end, tell_unbound};
+use xt_base::{OutOfMemory, Words};
 use xt_messages::Status;
 use xtfs_run::run;
 
@@ -30,8 +47,24 @@ fn keep_freed(alloc: Global) {
 }
 
 /// Writes to standard error what is to be read about words that were refused, or that ask for help.
-fn tell(rt: &HostRuntime, words: &Words) -> io::Result<()> {
+fn tell_words(rt: &HostRuntime, words: &Words) -> io::Result<()> {
     eprint!(rt; "{}", told(rt.alloc(), words)?)
+}
+
+/// The words that ask for the help of these words' command.
+fn help_words(alloc: Global, words: &Words) -> Result<Words, OutOfMemory> {
+    let mut help = Words::new(alloc);
+    if let Some(command) = words.as_slice().first() {
+        help.push(alloc, command.as_str())?;
+        help.push(alloc, "--help")?;
+    }
+    Ok(help)
+}
+
+/// Writes to standard error how the command of these words is called.
+fn tell_call(rt: &HostRuntime, words: &Words) -> io::Result<()> {
+    let help = help_words(rt.alloc(), words)?;
+    tell_words(rt, &help)
 }
 
 /// The words with the options that the environment has and they don't.
@@ -46,69 +79,6 @@ fn with_environment(rt: &HostRuntime, mut words: Words) -> io::Result<Words> {
     Ok(words)
 }
 
-/// The status of a node that is started on another node's store: that of one on a file that is no store.
-const ANOTHERS: u8 = 13;
-
-/// Whether the file beside a store says that it is another node's. A store without one gets one.
-fn is_anothers(rt: &HostRuntime, owner: &StoreOwner) -> io::Result<bool> {
-    match fs::read_to_string(rt, owner.path.as_str()) {
-        Ok(line) => {
-            let other = line.as_str() != owner.line.as_str();
-            if other {
-                eprint!(rt;
-                    "xtfs: this store is another node's: {} says {}, and these words are those of {}",
-                    owner.path,
-                    line.trim_end(),
-                    owner.line,
-                )?;
-            }
-            Ok(other)
-        }
-        Err(error) => {
-            if error.kind() == ErrorKind::NotFound {
-                // Where it can't be written, the store can't be opened either, and `run` says so.
-                let _written = fs::write(rt, owner.path.as_str(), owner.line.as_str());
-            }
-            Ok(false)
-        }
-    }
-}
-
-/// The status of work on a store that can't be opened: that of a disk that has failed.
-const UNOPENED: u8 = 5;
-
-/// Whether there is no file at this path that can be read. A disk would make one.
-fn is_unopened(rt: &HostRuntime, path: &str) -> io::Result<bool> {
-    match File::open(rt, path) {
-        Ok(_) => Ok(false),
-        Err(error) => {
-            eprintln!(rt; "xtfs: {path}: {error}")?;
-            Ok(true)
-        }
-    }
-}
-
-/// Whether one of these paths has no file that can be read.
-fn are_unopened(rt: &HostRuntime, paths: &[String]) -> io::Result<bool> {
-    for path in paths {
-        if is_unopened(rt, path.as_str())? {
-            return Ok(true);
-        }
-    }
-    Ok(false)
-}
-
-/// The status with which these words end before anything is done: those of a node on another node's store, or of work on a store that
-/// can't be opened.
-fn ended_early(rt: &HostRuntime, words: &Words) -> io::Result<Option<u8>> {
-    let (ends, status) = match store_use(rt.alloc(), words)? {
-        StoreUse::Owned(owner) => (is_anothers(rt, &owner)?, ANOTHERS),
-        StoreUse::Opened(paths) => (are_unopened(rt, paths.as_slice())?, UNOPENED),
-        StoreUse::Unused => (false, 0),
-    };
-    Ok(if ends { Some(status) } else { None })
-}
-
 /// How the program was called: what it is called by, and the words after that.
 #[derive(Drop)]
 struct CommandLine {
@@ -116,7 +86,7 @@ struct CommandLine {
     words: Words,
 }
 
-/// Reads the command line. Where one of its words isn't UTF-8 there are none, which ask for nothing either. An error means that memory ran
+/// Reads the command line. If one of its words isn't UTF-8 there are none, which ask for nothing either. An error means that memory ran
 /// out.
 fn read_command_line(rt: &HostRuntime) -> io::Result<CommandLine> {
     let alloc = rt.alloc();
@@ -139,28 +109,98 @@ fn read_command_line(rt: &HostRuntime) -> io::Result<CommandLine> {
     Ok(CommandLine { program, words })
 }
 
+/// The job that the words ask for, if they ask for one, and if there is memory to read them twice.
+fn job_of(alloc: Global, words: &Words) -> Option<Job> {
+    match asked_job(alloc, words) {
+        Ok(job) => job,
+        Err(_) => None,
+    }
+}
+
+/// What is told of the node that these words start, once it is ready; none for another job, or without memory.
+fn ready_of(alloc: Global, job: &Option<Job>) -> Option<String> {
+    match job {
+        Some(job) => match ready_text(alloc, job) {
+            Ok(text) => text,
+            Err(_) => None,
+        },
+        None => None,
+    }
+}
+
+/// Whether a person sees how far the job is.
+fn is_shown(rt: &HostRuntime, job: &Option<Job>) -> bool {
+    match job {
+        Some(job) => shows_progress(rt, job),
+        None => false,
+    }
+}
+
+/// Whether the words have an address to send to that is none. What is wrong with addresses is told.
+fn is_refused(rt: &HostRuntime, job: &Option<Job>) -> bool {
+    match job {
+        Some(job) => {
+            let refused = is_unreachable(rt, job);
+            if !refused {
+                let _written = tell_unbound(rt, job);
+            }
+            refused
+        }
+        None => false,
+    }
+}
+
+/// Writes to standard error what is to be read at the end: about the words, if they were refused, or about the job.
+fn tell(
+    rt: &HostRuntime,
+    words: &Words,
+    is_refused: bool,
+    job: &Option<Job>,
+    status: &Status,
+) -> io::Result<()> {
+    if is_refused {
+        return tell_call(rt, words);
+    }
+    if matches!(status, Status::Usage) {
+        return tell_words(rt, words);
+    }
+    match job {
+        Some(job) => tell_end(rt, job, status),
+        None => Ok(()),
+    }
+}
+
 fn main(rt: HostRuntime) -> ExitCode {
     let alloc = rt.alloc();
     keep_freed(alloc);
-    let (Ok(CommandLine { program, words }), Ok(mut source)) = (
-        read_command_line(&rt),
-        StdinSource::new(alloc, rt.reader()),
-    ) else {
+    let Ok(CommandLine { program, words }) = read_command_line(&rt) else {
         // Memory ran out before anything was done.
         return ExitCode::from(Status::OutOfMemory.code());
     };
-    if let Ok(Some(status)) = ended_early(&rt, &words) {
+    let job = job_of(alloc, &words);
+    let progress = Progress::new(&rt, is_shown(&rt, &job));
+    let Ok(mut source) = StdinSource::new(alloc, Counted::new(&progress, rt.reader())) else {
+        return ExitCode::from(Status::OutOfMemory.code());
+    };
+    let refused = is_refused(&rt, &job);
+    if !refused && let Ok(Some(status)) = ended_early(&rt, &words) {
         return ExitCode::from(status);
     }
-    let mut sink = StdoutSink::new(io::writer(&rt));
-    let mut link = UdpLink::new(alloc, &rt);
+    // Refused words ask for nothing.
+    let none = Words::new(alloc);
+    let asked = if refused { &none } else { &words };
+    let ready = ready_of(alloc, &job);
+    let output = Counted::new(&progress, io::writer(&rt));
+    let mut sink = StdoutSink::new(Hearing::new(&rt, alloc, ready.as_deref(), output));
+    let calls = Told::new(&rt);
+    let mut link = UdpLink::new(alloc, calls);
     let mut clock = SystemClock::new(&rt);
     let disk = FileDisk::new(&rt);
-    let mut spawner = ChildSpawner::new(alloc, &rt, program);
-    let (status, _disk) = run(
+    let mut spawner = ChildSpawner::new(alloc, calls, program);
+    let (status, disk) = run(
         &rt,
         alloc,
-        &words,
+        asked,
         &mut source,
         &mut sink,
         &mut link,
@@ -168,9 +208,10 @@ fn main(rt: HostRuntime) -> ExitCode {
         &mut clock,
         &mut spawner,
     );
-    if matches!(&status, Status::Usage) {
-        // The status stands, whether or not this can be written.
-        let _written = tell(&rt, &words);
-    }
+    // With the disk its lock ends.
+    drop(disk);
+    progress.end();
+    // The status is as it is, whether or not this can be written.
+    let _written = tell(&rt, &words, refused, &job, &status);
     ExitCode::from(status.code())
 }
