@@ -50,9 +50,7 @@ fn line_of(alloc: Global, counts: &Counts) -> Result<String, OutOfMemory>
 {
     format!(in alloc;
         "new {} good {} damaged {} mended 0\n",
-        counts.new,
-        counts.good,
-        counts.damaged,
+        counts.new, counts.good, counts.damaged,
     )
 }
 

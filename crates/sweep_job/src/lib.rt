@@ -2,8 +2,8 @@
 //! OSD that has stopped, and removes from this the files whose time is over.
 #![tactic(auto)]
 
-mod loading;
 mod lines;
+mod loading;
 mod sweeping;
 
 pub use sweeping::sweep_store;

@@ -15,12 +15,7 @@ use xt_base::{FileId, OutOfMemory};
 use xt_messages::Status;
 
 /// Chooses the store's file, and loads the store, whose journal has this limit in bytes.
-pub fn opened<D: Disk>(
-    alloc: Global,
-    path: &str,
-    limit: u64,
-    disk: D,
-) -> Result<Store<D>, Ended<D>>
+pub fn opened<D: Disk>(alloc: Global, path: &str, limit: u64, disk: D) -> Result<Store<D>, Ended<D>>
     ensures loads { IfOk result (λ store. IsLoaded
         (medium D.is_told D.kept D.moment D.left_since D.fault_count) disk limit store) }
     ensures ends { IfErr result (λ ended. IsUnloaded

@@ -82,13 +82,7 @@ fn named(
 }
 
 /// Sweeps the store `osd` by the store `mrc`, with the default times, over two disks, the one of these names.
-fn swept_as(
-    rt: &impl Abort,
-    alloc: Global,
-    osd: &str,
-    server: &str,
-    outside: Outside<'_>,
-) -> Left {
+fn swept_as(rt: &impl Abort, alloc: Global, osd: &str, server: &str, outside: Outside<'_>) -> Left {
     let mut disks = Vec::new(alloc);
     let disk = named(rt, alloc, server, outside.server, &[]);
     disks.push(disk).ok().expect(rt, OTHERWISE);
@@ -217,7 +211,10 @@ fn a_journal_has_no_room(rt: HostRuntime) {
         assert!(rt; left.sink.as_slice().is_empty());
         let after = image(&rt, &left, "osd");
         let after = after.as_slice();
-        assert!(rt; after.len() == *length && after[after.len() - 1] == 0, "with {limit}");
+        assert!(rt;
+            after.len() == *length && after[after.len() - 1] == 0,
+            "with {limit}"
+        );
         let front = after.len() - 1;
         assert!(rt; after[..front] == whole.as_slice()[..front], "with {limit}");
     }
@@ -243,11 +240,7 @@ fn a_device_fails(rt: HostRuntime) {
     let left = swept_as(&rt, rt.alloc(), "elsewhere", "mrc", all);
     assert!(rt; matches!(&left.status, Status::DiskFault { count: 1 }));
     assert!(rt; image(&rt, &left, "elsewhere").as_slice() == osd.as_slice());
-    let left = swept(
-        &rt,
-        rt.alloc(),
-        Outside { clock: &[1], ..all },
-    );
+    let left = swept(&rt, rt.alloc(), Outside { clock: &[1], ..all });
     assert!(rt; matches!(&left.status, Status::ClockFault { count: 1 }));
     assert!(rt; image(&rt, &left, "osd").as_slice() == osd.as_slice());
     let left = swept(&rt, rt.alloc(), Outside { sink: &[1], ..all });
