@@ -2,17 +2,26 @@
 # One OSD, the MRC and the DIR as processes of the built program on the loopback. Two files are written over and over, so that the OSD's
 # records are rewritten again and again, while it is killed by SIGKILL at any moment and started again. Every byte that was acknowledged
 # is read back each time, the store stays short, and at the end it loads.
-#   tests/compaction.sh [--rounds N] [PROGRAM]
+#   tests/compaction.sh [--rounds N] [--clients N] [PROGRAM]
+# With --clients there are this many clients at once, each with a file of its own, and all of them write when the OSD is killed.
 # Ends by itself: in 40 rounds, after about three minutes. Prints a line a round, and what it counted.
 set -u
 here=$(cd "$(dirname "$0")" && pwd)
 rounds=40
-if [ "${1:-}" = --rounds ]; then
-    rounds=$2
+clients=0
+while [ "${1#--}" != "${1:-}" ]; do
+    case $1 in
+    --rounds) rounds=$2 ;;
+    --clients) clients=$2 ;;
+    *)
+        echo "compaction.sh: there is no option $1" >&2
+        exit 2
+        ;;
+    esac
     shift 2
-fi
+done
 program=${1:-$(bash "$here/build.sh")} || exit 1
-exec python3 - "$program" "$rounds" <<'PYTHON'
+exec python3 - "$program" "$rounds" "$clients" <<'PYTHON'
 import os
 import random
 import signal
@@ -22,12 +31,12 @@ import sys
 import tempfile
 import time
 
-PROGRAM, ROUNDS = sys.argv[1], int(sys.argv[2])
+PROGRAM, ROUNDS, CLIENTS = sys.argv[1], int(sys.argv[2]), int(sys.argv[3])
 STRIPE, OBJECTS = 32768, 6
 LEASE, DRIFT = 800, 80
 KEY = "00"
-# The bytes from which on records are rewritten, and what the two files take with all that is said of them, at most.
-LEAST, FILES = 1 << 20, 1 << 19
+# The bytes from which on records are rewritten, and what a file takes with all that is said of it, at most.
+LEAST, FILE = 1 << 20, 1 << 18
 OPEN_GATE, SUPERBLOCK = 0xA5, 8
 random.seed(32)
 
@@ -95,15 +104,18 @@ class Cluster:
         for node in list(self.running):
             self.kill(node)
 
-    def client(self, words, tries=20):
-        return [PROGRAM] + words + ["--dir", self.addresses[900], "--lease", str(LEASE), "--drift", str(DRIFT), "--tries", str(tries)]
+    def client(self, words, tries=20, client=0):
+        """The words of a command of the client with this number."""
+        ours = ["--dir", self.addresses[900], "--id", str(500 + client), "--lease", str(LEASE), "--drift", str(DRIFT), "--tries", str(tries)]
+        return [PROGRAM] + words + ours
 
 
 class File:
-    """A file, with what each of its objects may be: what was acknowledged last, or anything that was tried since."""
+    """A file of a client, with what each of its objects may be: what was acknowledged last, or anything that was tried since."""
 
-    def __init__(self, path):
+    def __init__(self, path, client):
         self.path = path
+        self.client = client
         self.may_be = [set() for _ in range(OBJECTS)]
 
     def begin(self, cluster):
@@ -113,7 +125,7 @@ class File:
         given.write(b"".join(self.content))
         given.seek(0)
         words = ["put", self.path, "--replicas", "1", "--stripe", str(STRIPE)]
-        self.put = subprocess.Popen(cluster.client(words), stdin=given, stdout=subprocess.PIPE)
+        self.put = subprocess.Popen(cluster.client(words, client=self.client), stdin=given, stdout=subprocess.PIPE)
 
     def end(self):
         """Whether what was begun is acknowledged."""
@@ -133,7 +145,7 @@ class File:
         """Reads it back."""
         until = time.monotonic() + 60
         while True:
-            done = subprocess.run(cluster.client(["get", self.path]), stdin=subprocess.DEVNULL, stdout=subprocess.PIPE, timeout=300)
+            done = subprocess.run(cluster.client(["get", self.path], client=self.client), stdin=subprocess.DEVNULL, stdout=subprocess.PIPE, timeout=300)
             if done.returncode == 0:
                 break
             if done.returncode != 20 or time.monotonic() > until:
@@ -163,7 +175,15 @@ def main():
                 cluster.start(node)
             for words in [["register", "901", "2", cluster.addresses[901]], ["register", "1", "1", cluster.addresses[1]], ["mkdir", "/v"]]:
                 wait_for(lambda: subprocess.run(cluster.client(words), stdin=subprocess.DEVNULL, stdout=subprocess.DEVNULL).returncode == 0, words)
-            files = [File("/v/f"), File("/v/g")]
+            files = [File(f"/v/f{n}", n) for n in range(CLIENTS or 2)]
+
+            def begin(some):
+                for file in some:
+                    file.begin(cluster)
+
+            def end(some):
+                """How many of them are acknowledged."""
+                return sum([file.end() for file in some])
 
             def written(file):
                 file.begin(cluster)
@@ -171,25 +191,27 @@ def main():
 
             for file in files:
                 wait_for(lambda: written(file), "the first put")
-            puts, longest, before = 2, 0, 0
+            puts, longest, before = len(files), 0, 0
             for number in range(ROUNDS):
-                file, other = random.sample(files, 2)
-                # Some are written in peace, so that the records grow; in the last one the OSD is killed.
+                # Some are written in peace, so that the records grow; in the last ones the OSD is killed.
+                mixed = random.sample(files, len(files))
+                last, peaceful = (files, files) if CLIENTS else (mixed[:1], mixed[1:])
                 for _ in range(random.randrange(1, 4)):
-                    puts += written(other)
-                file.begin(cluster)
+                    begin(peaceful)
+                    puts += end(peaceful)
+                begin(last)
                 time.sleep(random.random() * 0.3)
                 cluster.kill(1)
                 longest = max(longest, os.path.getsize(store))
                 cluster.start(1)
-                acknowledged = file.end()
+                acknowledged = end(last)
                 puts += acknowledged
                 for each in files:
                     each.read(cluster)
                 made = areas_made(store)
                 if made < before:
                     raise SystemExit(f"{before} areas were made, and now {made}")
-                print(f"round {number + 1}: killed{'' if acknowledged else ', and the put to be tried again'}; all read again; "
+                print(f"round {number + 1}: killed, {acknowledged} of {len(last)} puts acknowledged; all read again; "
                       f"{os.path.getsize(store)} bytes, rewritten {made} times", flush=True)
                 before = made
         finally:
@@ -201,7 +223,7 @@ def main():
                 raise SystemExit(f"the journal of {node} doesn't load: {done.stdout!r}, status {done.returncode}")
         made = areas_made(store)
         written_bytes = puts * OBJECTS * STRIPE
-        if made == 0 and written_bytes > LEAST + 4 * FILES:
+        if made == 0 and written_bytes > LEAST + 4 * len(files) * FILE:
             raise SystemExit("the records were never rewritten")
         print(f"{puts} puts of {OBJECTS * STRIPE} bytes were acknowledged and all read back over {ROUNDS} kills; the records were rewritten "
               f"{made} times; the store had {longest} bytes at most, for {written_bytes} that were written; {time.monotonic() - began:.0f} s")

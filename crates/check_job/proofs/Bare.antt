@@ -15,8 +15,8 @@ use Rattle.xt_messages.specs.declared.status.Status.TheVariants as status
 use Rattle.replica_records.proofs.BodyLaws.{unseen}
 use Rattle.object_store.specs.Bare.{bare, bare_of}
 use Rattle.replica_records.specs.RecordText.{record_text}
-use Rattle.node_jobs.specs.Boots.{next_boot}
-use Rattle.node_jobs.proofs.Bare.{stored_bare}
+use Rattle.store_loading.specs.Boots.{next_boot}
+use Rattle.store_loading.proofs.Bare.{stored_bare}
 use Rattle.check_job.specs.Reports.{kind_word, count_of, counted_line, kind_lines, line_text, replica_kinds, request_kinds, old_kinds, report_lines, need_at, status_at}
 
 kind_same : (rec : Record) → kind_word (bare rec) ≡ kind_word rec

@@ -15,15 +15,15 @@ use Rattle.object_store.specs.declared.store.Store.{Store}
 use Rattle.object_store.specs.Access.{area_of, disk_of, journal_of, records_of}
 use Rattle.object_store.specs.Bare.{bare_of}
 use Rattle.object_store.specs.Texts.{texts_of, AreRecords}
-use Rattle.node_jobs.specs.Disks.{Medium, IsLoaded}
-use Rattle.node_jobs.specs.Jobs.{HasSinkCause}
-use Rattle.node_jobs.proofs.Disks.{medium_of}
+use Rattle.store_loading.specs.Loading.{Medium, IsLoaded}
+use Rattle.store_loading.specs.Sinks.{HasSinkCause, Reports}
+use Rattle.store_loading.proofs.Disks.{medium_of}
 use Rattle.node_links.specs.Streams.{Puts}
 use Rattle.xt_messages.specs.declared.record.Record.{Record}
 use Rattle.xt_messages.specs.declared.status.Status.{Status}
 use Rattle.xt_messages.specs.declared.status.Status.TheVariants as status
 use Rattle.check_job.specs.Reports.{compacted_size, need_at, report_lines, report_text, status_at, status_of}
-use Rattle.check_job.specs.Checking.{IsCheck, IsFoundIn, IsUnwritten, Reports, found_in}
+use Rattle.check_job.specs.Checking.{IsCheck, IsFoundIn, IsUnwritten, found_in}
 use Rattle.check_job.proofs.Bare.{report_same, status_same}
 use Rattle.check_job.proofs.Parts.{none_size}
 

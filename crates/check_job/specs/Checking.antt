@@ -9,11 +9,9 @@ use Rattle.xt_messages.specs.declared.status.Status.TheVariants as status
 use Rattle.object_store.specs.declared.store.Store.{Store}
 use Rattle.object_store.specs.Access.{area_of, records_of}
 use Rattle.object_store.specs.Texts.{texts_of, AreRecords}
-use Rattle.node_links.specs.Streams.{Puts}
-use Rattle.schedule_lines.specs.Fronts.{PutsFront}
 use Rattle.node_loop.specs.Events.{HasDiskCause}
-use Rattle.node_jobs.specs.Disks.{Medium, EndsUnloaded}
-use Rattle.node_jobs.specs.Jobs.{HasSinkCause}
+use Rattle.store_loading.specs.Loading.{Medium, EndsUnloaded}
+use Rattle.store_loading.specs.Sinks.{HasSinkCause, Reports}
 use Rattle.check_job.specs.Reports.{Found, report_text, status_of}
 
 -- These bytes are a journal of the records that were found; or there are too few for any record, and a start makes a new journal.
@@ -21,12 +19,6 @@ abbrev pub IsFoundIn : List ℕ → Found → Type 0
 IsFoundIn bytes found =
     ((super : Option Superblock) × StandsIn super bytes (texts_of found.records) × (found.long ≡ end_in super (texts_of found.records) + 1))
     ⊎ ((length bytes ≤ 13) × (found.records ≡ []) × (found.long ≡ 13))
-
--- A report is put, and the status is this one; or memory runs out before, or the sink fails over it.
-abbrev pub Reports : List ℕ → Status → Option (List ℕ) → Option (List ℕ) → Status → Type 0
-Reports text then held later (status.SinkFault count) = PutsFront held later text
-Reports text then held later status.OutOfMemory = later ≡ held
-Reports text then held later said = Puts held later text × (said ≡ then)
 
 -- what is found in a store that was loaded
 abbrev pub found_in : {D : Type 0} {g : Ghosts D} → Store D g → ℕ → Found

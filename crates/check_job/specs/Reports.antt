@@ -15,7 +15,7 @@ use Rattle.replica_records.specs.RecordText.{record_text}
 use Rattle.object_store.specs.declared.copied.Copied.{Copied}
 use Rattle.object_store.specs.Swaps.{size_of}
 use Rattle.object_store.specs.Swapping.{before_body}
-use Rattle.node_jobs.specs.Boots.{stored_boot, boot_record}
+use Rattle.store_loading.specs.Boots.{stored_boot, boot_record}
 
 -- ---- records by kind
 

@@ -5,20 +5,20 @@ ghost use Rattle.disk_model.specs.Disk.{IsImage, LeavesOnly};
 ghost use Rattle.xt_base.specs.Faults.{fault_count_after};
 ghost use Rattle.object_store.specs.Access.{records_of};
 ghost use Rattle.object_store.specs.Texts.{AreRecords};
-ghost use Rattle.node_jobs.specs.Disks.{medium};
-ghost use Rattle.node_jobs.specs.Jobs.{HasSinkCause};
+ghost use Rattle.store_loading.specs.Loading.{medium};
+ghost use Rattle.store_loading.specs.Sinks.{HasSinkCause, Reports};
 ghost use Rattle.check_job.specs.Reports as spec;
-ghost use Rattle.check_job.specs.Checking.{Reports, IsCheck, found_in};
+ghost use Rattle.check_job.specs.Checking.{IsCheck, found_in};
 
 use crate::report::report;
 use crate::sizes::compacted_size;
 use disk_model::Disk;
-use node_jobs::loaded;
 use node_links::Sink;
 use node_loop::Ended;
 use object_store::Store;
 use schedule_lines::put_all;
 use std::alloc::Global;
+use store_loading::loaded;
 use xt_base::Failed;
 use xt_messages::{Record, Status};
 

@@ -3,8 +3,8 @@ ghost use Rattle.std.specs.Prelude.{◌≡◌, ◌++◌, IfOk, OnOk, string_byte
 ghost use Rattle.std.specs.Str.{bytes_eq};
 ghost use Rattle.check_job.specs.Reports as spec;
 
-use node_jobs::stored_boot;
 use std::alloc::Global;
+use store_loading::stored_boot;
 use xt_base::OutOfMemory;
 use xt_messages::Record;
 

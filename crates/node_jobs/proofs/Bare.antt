@@ -6,26 +6,22 @@ use Rattle.xt_base.specs.declared.ids.Boot.{Boot}
 use Rattle.xt_messages.specs.declared.record.Folded.{Folded}
 use Rattle.xt_messages.specs.declared.record.Record.{Record}
 use Rattle.xt_messages.specs.declared.record.Record.TheVariants as kept
-use Rattle.xt_protocol.specs.Folds.{boot_after, fold_of}
+use Rattle.xt_protocol.specs.Folds.{fold_of}
 use Rattle.replica_records.specs.Known.{as_known}
 use Rattle.replica_records.proofs.BodyLaws.{unseen}
 use Rattle.object_store.specs.Bare.{bare, bare_of}
-use Rattle.object_store.proofs.BareFolds.{boot_bare, fold_bare, fold_of_bare}
+use Rattle.object_store.proofs.BareFolds.{fold_bare, fold_of_bare}
 use Rattle.osd_core.specs.Slots.{AreRows}
 use Rattle.server_rows.specs.Directory.{DirState, dir_of, empty_dir}
 use Rattle.server_rows.specs.Directory as directory
 use Rattle.server_rows.specs.Metadata.{Catalogue, catalogue_of, empty_catalogue}
 use Rattle.server_rows.specs.Metadata as metadata
 use Rattle.mrc_core.specs.Picking.{CanTake}
-use Rattle.node_jobs.specs.Boots.{stored_boot}
 
 -- all of a boot is known
 pub boot_known : (told : Bool) (boot : Boot) → as_known told (kept.Boot boot) ≡ kept.Boot boot
 boot_known true boot = refl
 boot_known false boot = refl
-
-pub stored_bare : (records : List Record) → stored_boot (bare_of records) ≡ stored_boot records
-stored_bare records = fold_of_bare boot_after boot_bare 0 records
 
 pub rows_bare : (given records : List Record) → given ≡ bare_of records → AreRows (fold_of records).files → AreRows (fold_of given).files
 rows_bare given records is rows = subst (λ (f : Folded). AreRows f.files) (sym (ap fold_of is ∙ fold_bare records)) rows
@@ -37,21 +33,3 @@ dir_same dir =
 
 pub dir_bare : (records : List Record) → dir_of (bare_of records) ≡ dir_of records
 dir_bare records = fold_of_bare directory.after_record dir_same empty_dir records
-
-mrc_same : (key : List ℕ) (catalogue : Catalogue) (rec : Record) → metadata.after_record key catalogue (bare rec) ≡ metadata.after_record key catalogue rec
-mrc_same key catalogue =
-    unseen (λ r s. metadata.after_record key catalogue r ≡ metadata.after_record key catalogue s) (λ file update body. refl)
-    (λ file object version bytes body. refl) (λ file update body. refl) (λ file object version bytes body. refl) (λ r. refl) []
-
-pub mrc_bare : (key : List ℕ) (records : List Record) → catalogue_of key (bare_of records) ≡ catalogue_of key records
-mrc_bare key records = fold_of_bare (metadata.after_record key) (mrc_same key) empty_catalogue records
-
-taken_same : (rec : Record) → CanTake rec → CanTake (bare rec)
-taken_same =
-    unseen (λ r s. CanTake s → CanTake r) (λ file update body can. can) (λ file object version bytes body can. can)
-    (λ file update body can. can) (λ file object version bytes body can. can) (λ r can. can) []
-
--- and each can be taken
-pub taken_bare : (given records : List Record) → given ≡ bare_of records → All CanTake records → All CanTake given
-taken_bare given records is can =
-    subst (All CanTake) (sym is) (All-map CanTake bare records (λ k d less. taken_same (get_or records k d) (can k d less)))

@@ -9,13 +9,13 @@ use Rattle.xt_messages.specs.declared.status.Status.{Status}
 use Rattle.xt_messages.specs.declared.status.Status.TheVariants as status
 use Rattle.object_store.specs.Texts.{AreRecords}
 use Rattle.node_links.specs.declared.link.Datagram.{Datagram}
+use Rattle.node_runs.specs.BatchEnds.{Unfinished, EndsBatches, IsServedInBatches}
 use Rattle.node_runs.specs.Runs.{Role, Served}
-use Rattle.node_runs.specs.Serving.{Undone, EndsServing, IsServed}
 use Rattle.server_rows.specs.Directory.{DirState, dir_of}
 use Rattle.server_limits.specs.Keeping.{DirRunsOn}
 use Rattle.server_limits.proofs.Keeping.{dir_starts}
-use Rattle.node_jobs.specs.Boots.{next_boot, boot_record, booted}
-use Rattle.node_jobs.specs.Jobs.{HasSinkCause}
+use Rattle.store_loading.specs.Boots.{next_boot, boot_record, booted}
+use Rattle.store_loading.specs.Sinks.{HasSinkCause}
 
 -- records with the next boot are within the limits
 pub boot_fits : (records : List Record) → All FitsRecord records → FitsBoot (next_boot records) → AllByRecursion FitsRecord (booted records)
@@ -33,14 +33,14 @@ dir_ready records after state are boot is told =
 
 -- serving never ends by a fault of the sink
 module _ {S : Type 0} (told : Bool) (role : Role S) (boot : Boot) (period limit : ℕ) where
-  ends_no_sink : (sink spent : ℕ) (to_come : Option (List Datagram)) (s : Served S) (undone : Undone) (said : Status)
-      → EndsServing told role boot period limit spent to_come s undone said → HasSinkCause sink sink said
-  ends_no_sink sink spent to_come s undone (status.SinkFault count) ending = absurd ending
-  ends_no_sink sink spent to_come s undone _ ending = refl
+  ends_no_sink : (sink spent : ℕ) (to_come : Option (List Datagram)) (s : Served S) (left : Unfinished) (said : Status)
+      → EndsBatches told role boot period limit spent to_come s left said → HasSinkCause sink sink said
+  ends_no_sink sink spent to_come s left (status.SinkFault count) ending = absurd ending
+  ends_no_sink sink spent to_come s left _ ending = refl
 
   pub served_sink : (start : Served S) (given_before given_after sent_before sent_after : Option (List Datagram)) (losses_before losses_after : ℕ)
       (unread read : Option (List ℕ)) (sink : ℕ) (said : Status)
-      → IsServed told role boot period start limit given_before given_after sent_before sent_after losses_before losses_after unread read said
+      → IsServedInBatches told role boot period start limit given_before given_after sent_before sent_after losses_before losses_after unread read said
       → HasSinkCause sink sink said
   served_sink start given_before given_after sent_before sent_after losses_before losses_after unread read sink said is =
-      ends_no_sink sink (length is.turns) is.to_come is.end is.undone said is.ending
+      ends_no_sink sink (length is.turns) is.to_come is.end is.left said is.ending

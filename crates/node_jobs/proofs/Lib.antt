@@ -1,7 +1,7 @@
 pub mod Disks
 pub mod Boots
-pub mod Places
 pub mod Jobs
+pub mod Causes
 pub mod Serving
 pub mod Osds
 pub mod Bare

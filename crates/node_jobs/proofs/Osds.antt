@@ -19,7 +19,7 @@ use Rattle.osd_limits.specs.Keeping.{RunsOn}
 use Rattle.osd_limits.proofs.Steps.{started}
 use Rattle.world_cores.proofs.Rows.{rows_are}
 use Rattle.node_roles.specs.Roles.{OsdRunsOn}
-use Rattle.node_jobs.specs.Boots.{next_boot, boot_record, booted}
+use Rattle.store_loading.specs.Boots.{next_boot, boot_record, booted}
 use Rattle.node_jobs.specs.Jobs.{osd_at}
 
 abbrev pub view_at : NodeId → TimeSettings → List ℕ → List Record → ℕ → OsdView

@@ -16,10 +16,10 @@ use Rattle.object_store.specs.declared.store.Store.{Store}
 use Rattle.object_store.specs.Access.{disk_of, records_of}
 use Rattle.object_store.specs.Texts.{AreRecords}
 use Rattle.node_links.specs.Streams.{Puts}
+use Rattle.node_runs.specs.BatchEnds.{IsServedInBatches, KeepsBatches}
+use Rattle.node_runs.specs.Batches.{kept_at}
 use Rattle.node_runs.specs.Hearing.{Ears}
-use Rattle.node_runs.specs.Keeping.{KeepsServed}
-use Rattle.node_runs.specs.Runs.{Role, Served, JournalAt, kept_through}
-use Rattle.node_runs.specs.Serving.{IsServed}
+use Rattle.node_runs.specs.Runs.{Role, Served, JournalAt}
 use Rattle.node_runs.proofs.Keeping.{from_before}
 use Rattle.node_loop.specs.Events.{HasDiskCause}
 use Rattle.node_loop.specs.Turns.{standing}
@@ -30,27 +30,29 @@ use Rattle.server_limits.specs.Keeping.{MrcRunsOn}
 use Rattle.server_limits.proofs.Keeping.{mrc_starts}
 use Rattle.mrc_core.specs.Picking.{CanTake}
 use Rattle.mrc_core.proofs.Fitting.{can_take}
-use Rattle.node_jobs.specs.Boots.{next_boot, booted}
-use Rattle.node_jobs.specs.Disks.{Medium, KeepsFrom, ComesFrom, ComesTo}
+use Rattle.store_loading.specs.Boots.{next_boot, booted}
+use Rattle.store_loading.specs.Loading.{Medium, ComesFrom}
+use Rattle.node_jobs.specs.Disks.{KeepsFrom, ComesTo}
 use Rattle.node_jobs.specs.Jobs.{NodeJob, IsNodeJob, IsReady, Outside, EndsEarly, has_served, unready, starting}
-use Rattle.node_jobs.proofs.Disks.{closed_from, keeps_from, medium_of}
+use Rattle.store_loading.proofs.Disks.{medium_of}
+use Rattle.node_jobs.proofs.Disks.{closed_from, keeps_from}
 use Rattle.node_jobs.proofs.Jobs.{boot_fits}
 
 module _ {D S : Type 0} (m : Medium D) (before after : Outside D) (turns : ℕ) (said : Status) where
   -- what serving says of a node that was ready in this state, and of its disk
   abbrev Serves : Role S → Boot → ℕ → Served S → Outside D → Type 0
   Serves role boot period start ready =
-      (s : IsServed m.is_told role boot period start turns ready.given after.given ready.sent after.sent ready.losses after.losses ready.readings after.readings said)
-      × KeepsServed m.is_told m.kept m.moment m.left_since ready.disk after.disk start
-      (kept_through m.is_told role boot period ready.given start s.to_come s.turns s.posts s.end s.comes) s.end s.undone
+      (s : IsServedInBatches m.is_told role boot period start turns ready.given after.given ready.sent after.sent ready.losses after.losses ready.readings after.readings said)
+      × KeepsBatches m.is_told m.kept m.moment m.left_since ready.disk after.disk start
+      (kept_at m.is_told role boot period ready.given start s.to_come s.turns s.posts s.end s.goes) s.end s.left
 
   module _ (role : Role S) (boot : Boot) (period : ℕ) (start : Served S) (ready : Outside D) (records : List Record) (loaded : D)
       (comes : ComesFrom m before.disk loaded records) (to : ComesTo m loaded ready.disk records start.kept) (serves : Serves role boot period start ready) where
     abbrev through : List (List Record)
-    through = kept_through m.is_told role boot period ready.given start serves.0.to_come serves.0.turns serves.0.posts serves.0.end serves.0.comes
+    through = kept_at m.is_told role boot period ready.given start serves.0.to_come serves.0.turns serves.0.posts serves.0.end serves.0.goes
 
-    kept_on : KeepsFrom m before.disk after.disk records (records ∷ through) serves.0.end.kept serves.0.undone.met
-    kept_on = keeps_from m before.disk loaded serves.1.until after.disk records (records ∷ through) serves.0.end.kept serves.0.undone.met comes
+    kept_on : KeepsFrom m before.disk after.disk records (records ∷ through) serves.0.end.kept serves.0.left.doing
+    kept_on = keeps_from m before.disk loaded serves.1.until after.disk records (records ∷ through) serves.0.end.kept serves.0.left.doing comes
         (λ told. from_before m.moment m.left_since loaded ready.disk records start.kept (comes.kept told) (to.each told) through serves.0.end.kept serves.1.until
         (serves.1.in_turn told))
         serves.1.ending serves.1.last
@@ -94,7 +96,7 @@ module _ {D S : Type 0} (m : Medium D) (job : NodeJob S) (before ready after : O
         fits = is.fits;
         journal = journal;
         stand = is.stand;
-        room = is.room;
+        within = is.within;
         reading = reading;
         between = ready.readings;
         read = is.reads;
@@ -116,6 +118,9 @@ pub not_started : {D : Type 0} {g : Ghosts D}
 not_started {g = g} only_now ready limit before after store boot reading journal is closed = unready (record {
   records = is.records;
   are = is.are;
+  journal = journal;
+  stand = is.stand;
+  within = is.within;
   fits = is.fits;
   silent = record { given = is.silent.given; sent = is.silent.sent; losses = is.silent.losses };
   why = ((reading, is.reads), is.told);

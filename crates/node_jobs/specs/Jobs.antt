@@ -1,7 +1,6 @@
 -- what the job of a node does
-use Rattle.std.specs.Prelude.{ℕ, ◌≡◌, ◌+◌, ◌/◌, max, Option, None, List, IsTrue, false, [], ◌∷◌, ◌++◌, codes}
+use Rattle.std.specs.Prelude.{ℕ, ◌≡◌, ◌+◌, ◌/◌, max, Option, List, IsTrue, false, [], ◌∷◌, ◌++◌, codes}
 use Rattle.std.specs.Fmt.{decimal}
-use Rattle.xt_base.specs.Faults.{Rose}
 use Rattle.xt_base.specs.TimeSettings.{TimeSettings}
 use Rattle.xt_base.specs.declared.ids.Boot.{Boot}
 use Rattle.xt_base.specs.declared.ids.NodeId.{NodeId}
@@ -15,13 +14,15 @@ use Rattle.object_store.specs.Texts.{AreRecords}
 use Rattle.node_links.specs.Streams.{Puts}
 use Rattle.node_links.specs.declared.link.Datagram.{Datagram}
 use Rattle.schedule_lines.specs.Fronts.{PutsFront}
+use Rattle.node_runs.specs.BatchEnds.{nothing, IsServedInBatches}
+use Rattle.node_runs.specs.Batches.{kept_at}
 use Rattle.node_runs.specs.Hearing.{Ears, with_address}
 use Rattle.node_runs.specs.Links.{Reads}
-use Rattle.node_runs.specs.Runs.{Role, Served, JournalAt, kept_through}
-use Rattle.node_runs.specs.Serving.{IsServed}
+use Rattle.node_runs.specs.Runs.{Role, Served, JournalAt}
 use Rattle.node_loop.specs.Events.{HasDiskCause}
-use Rattle.node_jobs.specs.Boots.{next_boot, boot_record, booted}
-use Rattle.node_jobs.specs.Disks.{Medium, EndsUnopened, IsUnloaded, IsUnbooted, KeepsFrom, ComesFrom, ComesTo, StandAt}
+use Rattle.store_loading.specs.Boots.{next_boot, boot_record, booted}
+use Rattle.store_loading.specs.Loading.{Medium, IsUnloaded, ComesFrom}
+use Rattle.node_jobs.specs.Disks.{EndsUnopened, IsUnbooted, KeepsFrom, ComesTo, EndsWithin, StandAt}
 
 -- ---- what a node is to do
 
@@ -85,11 +86,6 @@ module _ {D : Type 0} where
     pub readings : after.readings ≡ before.readings
     pub held : after.held ≡ before.held
 
--- the count of faults of the sink rose exactly where the status reports it
-abbrev pub HasSinkCause : ℕ → ℕ → Status → Type 0
-HasSinkCause before after (status.SinkFault count) = Rose before after × (count ≡ after)
-HasSinkCause before after _ = after ≡ before
-
 -- ---- what a node does
 
 -- the clock was read once
@@ -104,15 +100,18 @@ EndsUnready ready unread read held later status.OutOfMemory = ReadsOnce unread r
 EndsUnready ready unread read held later _ = ⊥
 
 module _ {D : Type 0} (m : Medium D) where
-  -- The boot was kept, and no more was done to the disk.
-  pub record IsUnready (ready : List ℕ) (before after : Outside D) (said : Status) : Type 0 where
+  -- The boot was kept, within the journal's limit, and no more was done to the disk.
+  pub record IsUnready (ready : List ℕ) (limit : ℕ) (before after : Outside D) (said : Status) : Type 0 where
     pub records : List Record
     pub are : AreRecords records
+    pub journal : JournalAt
+    pub stand : IsTrue m.is_told → StandAt (m.kept before.disk).read records (boot_record records) journal
+    pub within : EndsWithin limit journal
     pub fits : FitsBoot (next_boot records)
     pub silent : IsSilent before after
     pub why : EndsUnready ready before.readings after.readings before.held after.held said
     pub faults : m.fault_count after.disk ≡ m.fault_count before.disk
-    pub keeps : KeepsFrom m before.disk after.disk records (records ∷ booted records ∷ []) (booted records) None
+    pub keeps : KeepsFrom m before.disk after.disk records (records ∷ booted records ∷ []) (booted records) nothing
 
   -- Why a node ends before it serves, and what it has done by then: nothing was received or sent.
   pub data EndsEarly (ready : List ℕ) (limit : ℕ) (before after : Outside D) (said : Status) : Type 0 where
@@ -123,16 +122,16 @@ module _ {D : Type 0} (m : Medium D) where
     -- its boot isn't kept
     unbooted : IsIdle before after → IsUnbooted m limit before.disk after.disk said → EndsEarly ready limit before after said
     -- its boot is kept
-    unready : IsUnready ready before after said → EndsEarly ready limit before after said
+    unready : IsUnready ready limit before after said → EndsEarly ready limit before after said
 
-  -- A node is ready: these records were loaded from its disk, and that of its boot was appended, in a journal with this limit in bytes; then
-  -- it read its clock once, and then it wrote that it is ready.
+  -- A node is ready: these records were loaded from its disk, and that of its boot was appended, in a journal with this limit in bytes and
+  -- within it; then it read its clock once, and then it wrote that it is ready.
   pub record IsReady (ready : List ℕ) (limit : ℕ) (before after : Outside D) (all : List Record) (boot : Boot) (reading : ℕ) (journal : JournalAt)
       : Type 0 where
     pub records : List Record
     pub are : AreRecords records
     pub stand : IsTrue m.is_told → StandAt (m.kept before.disk).read records (boot_record records) journal
-    pub room : journal.limit ≡ limit
+    pub within : EndsWithin limit journal
     pub fits : FitsBoot (next_boot records)
     pub all_are : all ≡ booted records
     pub boot_is : boot ≡ next_boot records
@@ -148,22 +147,22 @@ module _ {D : Type 0} (m : Medium D) where
     pub records : List Record
     pub are : AreRecords records
     pub fits : FitsBoot (next_boot records)
-    -- where the records are in the journal as serving begins: as they were loaded, with that of the boot after them
+    -- where the records are in the journal as serving begins: as they were loaded, with that of the boot after them, within the limit
     pub journal : JournalAt
     pub stand : IsTrue m.is_told → StandAt (m.kept before.disk).read records (boot_record records) journal
-    pub room : journal.limit ≡ job.limit
+    pub within : EndsWithin job.limit journal
     pub reading : ℕ
     pub between : Option (List ℕ)
     pub read : Reads before.readings between (reading ∷ [])
     pub told : Puts before.held after.held job.ready
-    pub serves : IsServed m.is_told job.role (next_boot records) job.period
+    pub serves : IsServedInBatches m.is_told job.role (next_boot records) job.period
         (starting (job.state_of (booted records) reading) (booted records) journal job.ears reading job.period) job.turns
         before.given after.given before.sent after.sent before.losses after.losses between after.readings said
-    -- Its disk kept its records, and then in turn those of the serving, from its boot on: a crash leaves none that are older than what it
-    -- kept by then. In the end it has those after all that it did, or those that it was about to keep as it ended.
-    pub keeps : KeepsFrom m before.disk after.disk records (records ∷ kept_through m.is_told job.role (next_boot records) job.period before.given
+    -- Its disk kept its records, and then in turn those of the serving, from its boot on: those after each batch and each rewriting. A crash
+    -- leaves none that are older than what it kept by then. In the end it has one of the lists that what was being done to them leaves.
+    pub keeps : KeepsFrom m before.disk after.disk records (records ∷ kept_at m.is_told job.role (next_boot records) job.period before.given
         (starting (job.state_of (booted records) reading) (booted records) journal job.ears reading job.period)
-        serves.to_come serves.turns serves.posts serves.end serves.comes) serves.end.kept serves.undone.met
+        serves.to_come serves.turns serves.posts serves.end serves.goes) serves.end.kept serves.left.doing
     pub disk_count : HasDiskCause (m.fault_count before.disk) (m.fault_count after.disk) said
 
   -- The job of a node: it ended before it served, or it served.

@@ -1,4 +1,3 @@
-pub mod Boots
 pub mod Disks
 pub mod Jobs
 pub mod Roles

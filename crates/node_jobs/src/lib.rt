@@ -1,8 +1,8 @@
 //! The job of a node: it binds its link, loads or makes its store, appends its boot, reads the clock, writes that it is ready, and serves.
 #![tactic(auto)]
 
+mod booting;
 mod directory;
-mod loading;
 mod metadata;
 mod opening;
 mod osd;
@@ -10,6 +10,5 @@ mod readiness;
 mod starting;
 
 pub use directory::serve_directory;
-pub use loading::{loaded, stored_boot};
 pub use metadata::serve_metadata;
 pub use osd::serve_osd;

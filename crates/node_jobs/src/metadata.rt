@@ -1,7 +1,8 @@
 ghost use Rattle.std.specs.Prelude.{◌≤◌, length};
-ghost use Rattle.node_runs.specs.Serving.{HasServeCause};
-ghost use Rattle.node_jobs.specs.Disks.{medium};
-ghost use Rattle.node_jobs.specs.Jobs.{IsNodeJob, HasSinkCause};
+ghost use Rattle.node_runs.specs.BatchEnds.{HasBatchCause};
+ghost use Rattle.store_loading.specs.Loading.{medium};
+ghost use Rattle.store_loading.specs.Sinks.{HasSinkCause};
+ghost use Rattle.node_jobs.specs.Jobs.{IsNodeJob};
 ghost use Rattle.node_jobs.specs.Roles.{mrc_job};
 
 use crate::readiness::{Ready, get_ready};
@@ -53,7 +54,7 @@ pub fn serve_metadata<K: Sink, L: Link, D: Disk, C: Clock>(
           disk = result.1;
         })
         result.0 }
-    ensures cause { HasServeCause (L.fault_count link.old) (L.fault_count link.new)
+    ensures cause { HasBatchCause (L.fault_count link.old) (L.fault_count link.new)
         (C.fault_count clock.old) (C.fault_count clock.new) result.0 }
     ensures sink { HasSinkCause (K.fault_count out.old) (K.fault_count out.new) result.0 }
 {

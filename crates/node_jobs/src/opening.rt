@@ -1,14 +1,15 @@
 ghost use Rattle.std.specs.Prelude.{◌≡◌, ℕ, IfOk, IfErr};
 ghost use Rattle.node_runs.specs.Serving.{HasServeCause};
-ghost use Rattle.node_jobs.specs.Disks.{medium, IsLoaded, CannotOpen};
-ghost use Rattle.node_jobs.specs.Jobs.{HasSinkCause};
+ghost use Rattle.store_loading.specs.Loading.{medium, IsLoaded};
+ghost use Rattle.node_jobs.specs.Disks.{CannotOpen};
+ghost use Rattle.store_loading.specs.Sinks.{HasSinkCause};
 
-use crate::loading::loaded;
 use disk_model::Disk;
 use node_links::Link;
 use node_loop::Ended;
 use object_store::Store;
 use std::alloc::Global;
+use store_loading::store_at;
 use xt_messages::Status;
 
 /// Binds the link to its address, opens the store's file, and loads the store, whose journal has this limit in bytes.
@@ -32,7 +33,6 @@ pub fn opened<L: Link, D: Disk>(
         HasServeCause (L.fault_count link.old) (L.fault_count link.new) clock clock ended.status) }
     ensures sink { (sink : ℕ) → IfErr result (λ ended. HasSinkCause sink sink ended.status) }
 {
-    let mut disk = disk;
     if link.bind(listen).is_err() {
         return Err(Ended {
             status: Status::LinkFault {
@@ -41,13 +41,5 @@ pub fn opened<L: Link, D: Disk>(
             disk,
         });
     }
-    if disk.attach(path).is_err() {
-        return Err(Ended {
-            status: Status::DiskFault {
-                count: disk.faults(),
-            },
-            disk,
-        });
-    }
-    loaded(alloc, disk, limit)
+    store_at(alloc, path, limit, disk)
 }

@@ -1,9 +1,10 @@
 ghost use Rattle.std.specs.Prelude.{◌≡◌, ◌≤◌, ◌<◌, ◌^◌, Some, length, string_bytes, IfOk};
 ghost use Rattle.xt_protocol.specs.Folds.{fold_of};
 ghost use Rattle.osd_core.specs.Slots.{AreRows};
-ghost use Rattle.node_runs.specs.Serving.{HasServeCause};
-ghost use Rattle.node_jobs.specs.Disks.{medium};
-ghost use Rattle.node_jobs.specs.Jobs.{IsNodeJob, HasSinkCause, osd_at, osd_ready};
+ghost use Rattle.node_runs.specs.BatchEnds.{HasBatchCause};
+ghost use Rattle.store_loading.specs.Loading.{medium};
+ghost use Rattle.store_loading.specs.Sinks.{HasSinkCause};
+ghost use Rattle.node_jobs.specs.Jobs.{IsNodeJob, osd_at, osd_ready};
 ghost use Rattle.node_jobs.specs.Roles.{osd_job};
 
 use crate::readiness::{Ready, get_ready};
@@ -98,7 +99,7 @@ pub fn serve_osd<K: Sink, L: Link, D: Disk, C: Clock>(
           disk = result.1;
         })
         result.0 }
-    ensures cause { HasServeCause (L.fault_count link.old) (L.fault_count link.new)
+    ensures cause { HasBatchCause (L.fault_count link.old) (L.fault_count link.new)
         (C.fault_count clock.old) (C.fault_count clock.new) result.0 }
     ensures sink { HasSinkCause (K.fault_count out.old) (K.fault_count out.new) result.0 }
 {

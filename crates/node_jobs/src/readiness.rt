@@ -2,10 +2,11 @@ ghost use Rattle.std.specs.Prelude.{◌≡◌, ◌<◌, ◌^◌, IfOk, IfErr};
 ghost use Rattle.object_store.specs.Access.{records_of, disk_of};
 ghost use Rattle.node_runs.specs.Serving.{HasServeCause};
 ghost use Rattle.node_loop.specs.Stores.{journal_at};
-ghost use Rattle.node_jobs.specs.Disks.{medium};
-ghost use Rattle.node_jobs.specs.Jobs.{EndsEarly, HasSinkCause, IsReady};
+ghost use Rattle.store_loading.specs.Loading.{medium};
+ghost use Rattle.store_loading.specs.Sinks.{HasSinkCause};
+ghost use Rattle.node_jobs.specs.Jobs.{EndsEarly, IsReady};
 
-use crate::loading::booted;
+use crate::booting::booted;
 use crate::opening::opened;
 use crate::starting::ready;
 use command_words::Serving;

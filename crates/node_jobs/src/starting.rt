@@ -3,7 +3,8 @@ ghost use Rattle.xt_base.specs.TimeSettings.{AreTimes};
 ghost use Rattle.node_links.specs.Streams.{Puts};
 ghost use Rattle.node_runs.specs.Links.{Reads};
 ghost use Rattle.node_runs.specs.Serving.{HasServeCause};
-ghost use Rattle.node_jobs.specs.Jobs.{EndsUnready, HasSinkCause, knows_dir, period_of};
+ghost use Rattle.store_loading.specs.Sinks.{HasSinkCause};
+ghost use Rattle.node_jobs.specs.Jobs.{EndsUnready, knows_dir, period_of};
 
 use node_links::{Clock, Sink};
 use node_mail::Ears;

@@ -1,6 +1,8 @@
--- what a node sees of the records of its store
-use Rattle.std.proofs.Common.{◌≡◌, ◌∙◌, sym, ap, subst, Bool, Option, Some, None, List, [], ◌∷◌, ◌++◌}
+-- what a node sees of its records: those of its store, and those that wait
+use Rattle.std.proofs.Common.{◌≡◌, ◌∙◌, refl, sym, ap, subst, Bool, Option, Some, None, List, [], ◌∷◌, ◌++◌}
+use Rattle.std.specs.List.{All}
 use Rattle.std.specs.Option.{IfSome, option_map}
+use Rattle.std.proofs.lemmas.List.Elements.{All-append}
 use Rattle.std.proofs.Math.Logic.{∥∥₁_elim}
 use Rattle.disk_model.specs.declared.disk.Disk.{Ghosts}
 use Rattle.xt_messages.specs.Limits.{FitsRecord}
@@ -13,15 +15,17 @@ use Rattle.replica_records.proofs.Known.{fold_known, known_append}
 use Rattle.object_store.specs.declared.reader.Reader.{Reader}
 use Rattle.object_store.specs.declared.store.Store.{Store}
 use Rattle.object_store.specs.Access.{records_of}
+use Rattle.object_store.proofs.Callers.{store_known}
 use Rattle.object_store.specs.FitProps.{all_fit_prop}
+use Rattle.object_store.specs.Layers.{AgreesOver}
 use Rattle.object_store.specs.Readers.{seen_of}
 use Rattle.object_store.specs.Seen.{agreed, read_of, store_of}
-use Rattle.object_store.proofs.Callers.{store_known}
+use Rattle.object_store.specs.Waits.{records_with}
 use Rattle.world_spec.specs.NodeSteps.{one_more}
 use Rattle.node_loop.specs.Events.{Fits}
 
 -- these very records, for one
-pub sees_itself : {D : Type 0} {g : Ghosts D} (store : Store D g) → Sees g.is_told (records_of store) (records_of store)
+sees_itself : {D : Type 0} {g : Ghosts D} (store : Store D g) → Sees g.is_told (records_of store) (records_of store)
 sees_itself store = record {
   same = store_known store;
   fit = ∥∥₁_elim store.sound (all_fit_prop (records_of store)) (λ are. are.fit);
@@ -46,18 +50,40 @@ fits_so told known seen turned sees fits = record {
   messages = fits.messages;
 }
 
--- after a step: some list that agrees with all that was read
-pub record SeenBy {D : Type 0} {g : Ghosts D} (store : Store D g) (reader : Reader D g) : Type 0 where
-  pub seen : List Record
-  pub sees : Sees g.is_told (records_of store) seen
-  pub agrees : agreed reader seen
+-- with the records that wait, which are known
+pub sees_with : (told : Bool) (known lower recs : List Record) → Sees told known lower → All FitsRecord recs → Sees told (known ++ known_of told recs) (lower ++ recs)
+sees_with told known lower recs sees fit = record {
+  same = known_append told lower recs ∙ ap (λ (rs : List Record). rs ++ known_of told recs) sees.same;
+  fit = All-append FitsRecord lower recs sees.fit fit;
+}
 
-pub seen_by : {D : Type 0} {g : Ghosts D} (store : Store D g) (before after : Reader D g) → store_of before ≡ store
-    → ((records : List Record) → agreed after records → agreed before records) → SeenBy store after
-seen_by {g = g} store before after is later =
-    let seen = seen_of g.is_told (records_of (store_of after)) (read_of after) in
+-- what is known of a store with records that wait can be seen as them
+pub sees_all : {D : Type 0} {g : Ghosts D} (store : Store D g) (recs : List Record) → All FitsRecord recs → Sees g.is_told (records_with store recs) (records_of store ++ recs)
+sees_all {g = g} store recs fit = sees_with g.is_told (records_of store) (records_of store) recs (sees_itself store) fit
+
+-- what agrees with the bodies of a store that were read, and then with those that wait, is seen of its records with those that wait
+pub sees_over : {D : Type 0} {g : Ghosts D} (store : Store D g) (reader : Reader D g) (recs records : List Record) → store_of reader ≡ store → All FitsRecord recs
+    → AgreesOver (agreed reader) recs records → Sees g.is_told (records_with store recs) records
+sees_over {g = g} store reader recs records is fit agrees =
+    subst (λ (rs : List Record). Sees g.is_told (records_with store recs) rs) (sym agrees.are)
+    (subst (λ (s : Store _ g). Sees g.is_told (records_with s recs) (agrees.lower ++ recs)) is
+    (sees_with g.is_told (records_of (store_of reader)) agrees.lower recs agrees.agree.sees fit))
+
+-- after a step: some list that agrees with all that was read
+pub record SeenBy {D : Type 0} {g : Ghosts D} (store : Store D g) (recs : List Record) (agrees : List Record → Type 0) : Type 0 where
+  pub seen : List Record
+  pub sees : Sees g.is_told (records_with store recs) seen
+  pub agrees_so : agrees seen
+
+pub seen_by : {D : Type 0} {g : Ghosts D} (store : Store D g) (before after : Reader D g) (recs recs_before recs_after : List Record) → store_of before ≡ store → recs_before ≡ recs
+    → All FitsRecord recs → ((records : List Record) → AgreesOver (agreed after) recs_after records → AgreesOver (agreed before) recs_before records)
+    → SeenBy store recs (AgreesOver (agreed after) recs_after)
+seen_by {g = g} store before after recs recs_before recs_after is same fit later =
+    let lower = seen_of g.is_told (records_of (store_of after)) (read_of after) in
+    let all : AgreesOver (agreed after) recs_after (lower ++ recs_after) = record { lower = lower; agree = after.seen; are = refl } in
     record {
-      seen = seen;
-      sees = subst (λ (s : Store _ g). Sees g.is_told (records_of s) seen) is (later seen after.seen).sees;
-      agrees = after.seen;
+      seen = lower ++ recs_after;
+      sees = sees_over store before recs (lower ++ recs_after) is fit
+          (subst (λ (rs : List Record). AgreesOver (agreed before) rs (lower ++ recs_after)) same (later (lower ++ recs_after) all));
+      agrees_so = all;
     }

@@ -20,6 +20,8 @@ use Rattle.node_runs.specs.Hearing.{Book}
 use Rattle.node_runs.specs.Runs.{JournalAt, grown, needed_in}
 use Rattle.node_runs.specs.Serving.{IsOver}
 use Rattle.node_runs.specs.Posting.{posted, none_posted, HasPosted, HasSentFront}
+use Rattle.node_loop.specs.declared.event.Stop.{Stop}
+use Rattle.node_loop.specs.declared.event.Stop.TheVariants as stop
 
 -- its record can be put after these, and its messages can be sent
 pub record Fits (records : List Record) (turned : Turned) : Type 0 where
@@ -30,7 +32,7 @@ pub record Fits (records : List Record) (turned : Turned) : Type 0 where
 abbrev pub Seeing : Bool → List Record → (List Record → Type 0) → Type 0
 Seeing told records holds = (seen : List Record) × Sees told records seen × holds seen
 
--- The node is in the state of the step, has put its record and sent its messages. What is known of that record is kept.
+-- The node is in the state of the step; its record is kept or waits, and its messages were sent or wait. What is known of that record is kept.
 pub record HasStepped {S : Type 0} (told : Bool) (step : Step S) (node : NodeId) (boot : Boot) (book : Book) (before : ℕ) (records : List Record) (journal : JournalAt)
     (state : S) (kept : List Record) (stands : JournalAt) (outs : List Msg) (count : ℕ) (handed : List Datagram → Type 0) : Type 0 where
   pub state_is : state ≡ step.state
@@ -45,30 +47,19 @@ abbrev pub HasDiskCause : ℕ → ℕ → Status → Type 0
 HasDiskCause before after (status.DiskFault count) = Rose before after × (count ≡ after)
 HasDiskCause before after _ = after ≡ before
 
--- why a record isn't put
-abbrev pub EndsPut : Status → Type 0
-EndsPut (status.DiskFault count) = Unit {0}
-EndsPut (status.JournalFull need limit) = Unit {0}
-EndsPut status.OutOfMemory = Unit {0}
-EndsPut _ = ⊥
+-- Why a record isn't staged, where the journal would need this many bytes for it within this limit: it has no room, or memory ran out.
+abbrev pub EndsStage : ℕ → ℕ → Stop → Type 0
+EndsStage limit needed (stop.With (status.JournalFull need most)) = IsOver limit needed need most
+EndsStage limit needed (stop.With status.OutOfMemory) = Unit {0}
+EndsStage limit needed _ = ⊥
 
--- A record for which the journal needs so many bytes has no room within this limit, where the status says that it is full.
-abbrev pub IsFullFor : ℕ → ℕ → Status → Type 0
-IsFullFor limit needed (status.JournalFull need most) = IsOver limit needed need most
-IsFullFor limit needed _ = Unit {0}
-
--- What a put leaves that ends the node: `left` says of a record that a crash leaves it or not; none where the journal is full.
-abbrev pub LeavesPut : (Option Record → Type 0) → Record → Status → Type 0
-LeavesPut left rec (status.JournalFull need limit) = left None
-LeavesPut left rec _ = left (Some rec)
-
--- An event that ends the node: nothing of it is sent, but where memory runs out after its record, a front of its messages. And what it
--- leaves on the disk: `left` says of a record that a crash leaves it or not.
-abbrev pub EndsEvent : {S : Type 0} → Step S → NodeId → Boot → Book → ℕ → JournalAt → (List Datagram → Type 0) → (Option Record → Type 0) → Status
+-- An event that ends the node: `staged` says of a record that it waits, and no other; `mailed` of messages that they wait or were sent. Nothing of
+-- the event waits and nothing was sent; but where memory runs out after its record was staged, that waits, and a prefix of its messages.
+abbrev pub EndsEvent : {S : Type 0} → Step S → NodeId → Boot → Book → ℕ → JournalAt → (List Datagram → Type 0) → (Option Record → Type 0) → Stop
     → Type 0
-EndsEvent step node boot book before journal handed left (status.DiskFault count) = handed [] × (left step.turned.rec ⊎ left None)
-EndsEvent step node boot book before journal handed left (status.JournalFull need limit) =
-    handed [] × left None × ((rec : Record) × (step.turned.rec ≡ Some rec) × IsOver journal.limit (needed_in journal rec) need limit)
-EndsEvent step node boot book before journal handed left status.OutOfMemory =
-    (handed [] × left None) ⊎ (HasSentFront node boot book before step.turned.outs handed × left step.turned.rec)
-EndsEvent step node boot book before journal handed left _ = ⊥
+EndsEvent step node boot book before journal mailed staged stop.Unread = mailed [] × staged None
+EndsEvent step node boot book before journal mailed staged (stop.With (status.JournalFull need limit)) =
+    mailed [] × staged None × ((rec : Record) × (step.turned.rec ≡ Some rec) × IsOver journal.limit (needed_in journal rec) need limit)
+EndsEvent step node boot book before journal mailed staged (stop.With status.OutOfMemory) =
+    (mailed [] × staged None) ⊎ (HasSentFront node boot book before step.turned.outs mailed × staged step.turned.rec)
+EndsEvent step node boot book before journal mailed staged _ = ⊥

@@ -1,5 +1,5 @@
--- a turn, and one pass of the loop of a served node
-use Rattle.std.specs.Prelude.{ℕ, Bool, ◌⊎◌, ◌≡◌, ◌≤◌, ◌<◌, ◌+◌, Option, Some, None, List, [], ◌∷◌, ◌++◌, length, take}
+-- a turn of a served node, an event in it, and a look at the records after a Wake
+use Rattle.std.specs.Prelude.{ℕ, Bool, ◌⊎◌, ◌≡◌, ◌≤◌, ◌<◌, Option, List, [], ◌∷◌, length, take}
 use Rattle.std.specs.Option.{IfSome}
 use Rattle.xt_base.specs.declared.ids.Boot.{Boot}
 use Rattle.xt_messages.specs.declared.message.Msg.{Msg}
@@ -9,13 +9,12 @@ use Rattle.xt_messages.specs.declared.record.Record.{Record}
 use Rattle.xt_messages.specs.declared.status.Status.{Status}
 use Rattle.xt_messages.specs.declared.status.Status.TheVariants as status
 use Rattle.replica_records.specs.Known.{Sees}
-use Rattle.world_spec.specs.World.{Deed, rewrites}
 use Rattle.node_links.specs.declared.link.Datagram.{Datagram}
 use Rattle.node_links.specs.Streams.{Takes}
-use Rattle.node_runs.specs.Links.{Sends, Reads}
+use Rattle.node_runs.specs.Links.{Reads}
 use Rattle.node_runs.specs.Hearing.{Ears}
-use Rattle.node_runs.specs.Runs.{Role, Served, JournalAt, Turn, woke, idle, came, Begins, Passes, Comes, Rewrites, handles, mails, datagrams_in, readings_in}
-use Rattle.node_runs.specs.Serving.{Undone, EndsServing}
+use Rattle.node_runs.specs.Runs.{Role, Served, JournalAt, Turn, woke, idle, came, Begins, Rewrites, handles, mails, datagrams_in, readings_in}
+use Rattle.node_runs.specs.BatchEnds.{Doing, nothing, rewriting}
 use Rattle.node_loop.specs.declared.opening.Opening.{Opening}
 use Rattle.node_loop.specs.declared.opening.Opening.TheVariants as opening
 
@@ -54,60 +53,26 @@ CannotBegin left before after unread read (status.ClockFault count) =
     (turn : Turn) × Begins before left turn × Takes before after (datagrams_in (turn ∷ [])) × (read ≡ unread)
 CannotBegin left before after unread read _ = ⊥
 
--- one pass: a turn, a message to itself, or a look at the records after a Wake, in which they can be rewritten
-pub record HasPassed {S : Type 0} (told : Bool) (role : Role S) (boot : Boot) (period : ℕ) (old new : Served S) (spent now_spent : ℕ)
-    (before after sent_before sent_after : Option (List Datagram)) (losses_before losses_after : ℕ) (unread read : Option (List ℕ)) : Type 0 where
-  pub turns : List Turn
-  pub posts : List Datagram
-  pub passes : Passes told role boot period before old turns posts new
-  pub received : Takes before after (datagrams_in turns)
-  pub reads : Reads unread read (readings_in turns)
-  pub sends : Sends sent_before sent_after losses_before losses_after posts
-  pub spends : now_spent ≡ spent + length turns
-
--- a pass that ends the node, and what it leaves on the disk; `left deed` says that a crash leaves the records with that deed or without it
-pub record HasEnded {S : Type 0} (told : Bool) (role : Role S) (boot : Boot) (period : ℕ) (limit spent : ℕ) (old : Served S)
-    (before after sent_before sent_after : Option (List Datagram)) (losses_before losses_after : ℕ) (unread read : Option (List ℕ))
-    (left : Option Deed → Type 0) (said : Status) : Type 0 where
-  pub undone : Undone
-  pub received : Takes before after (datagrams_in undone.turn ++ undone.unread)
-  pub reads : Reads unread read (readings_in undone.turn)
-  pub sends : Sends sent_before sent_after losses_before losses_after undone.more
-  pub ending : EndsServing told role boot period limit spent before old undone said
-  pub leaves : left undone.met
-
--- A rewriting of the records with these bodies that ends the node: the disk failed, or memory ran out. A crash leaves them rewritten or not;
--- `left deed` says so of a deed.
-abbrev pub EndsRewriting : List KeepBody → (Option Deed → Type 0) → Status → Type 0
-EndsRewriting keep left (status.DiskFault count) = left (Some (rewrites keep))
-EndsRewriting keep left status.OutOfMemory = left (Some (rewrites keep))
-EndsRewriting keep left _ = ⊥
+-- A rewriting of the records with these bodies that ends the node: the disk failed, or memory ran out. `leaves` says what was being done to them.
+abbrev pub EndsRewriting : List KeepBody → (Doing → Type 0) → Status → Type 0
+EndsRewriting keep leaves (status.DiskFault count) = leaves (rewriting keep)
+EndsRewriting keep leaves status.OutOfMemory = leaves (rewriting keep)
+EndsRewriting keep leaves _ = ⊥
 
 -- the same where they were to be rewritten with the bodies that the node needs
-abbrev pub RewritingEnds : {S : Type 0} → Role S → Boot → ℕ → Served S → (Option Deed → Type 0) → Type 0
-RewritingEnds role boot period s left = (keep : List KeepBody) × Rewrites role boot period s keep × left (Some (rewrites keep))
+abbrev pub RewritingEnds : {S : Type 0} → Role S → Boot → ℕ → Served S → (Doing → Type 0) → Type 0
+RewritingEnds role boot period s leaves = (keep : List KeepBody) × Rewrites role boot period s keep × leaves (rewriting keep)
 
 -- A look at the records after a Wake that ends the node: memory ran out before they were to be rewritten; or it, or the disk, failed then.
-abbrev pub EndsSettling : {S : Type 0} → Role S → Boot → ℕ → Served S → (Option Deed → Type 0) → Status → Type 0
-EndsSettling role boot period s left (status.DiskFault count) = RewritingEnds role boot period s left
-EndsSettling role boot period s left status.OutOfMemory = left None ⊎ RewritingEnds role boot period s left
-EndsSettling role boot period s left _ = ⊥
-
--- the node has come so far
-pub record HasCome {S : Type 0} (told : Bool) (role : Role S) (boot : Boot) (period : ℕ) (start now : Served S) (spent : ℕ)
-    (before after sent_before sent_after : Option (List Datagram)) (losses_before losses_after : ℕ) (unread read : Option (List ℕ)) : Type 0 where
-  pub turns : List Turn
-  pub posts : List Datagram
-  pub comes : Comes told role boot period before start after turns posts now
-  pub received : Takes before after (datagrams_in turns)
-  pub reads : Reads unread read (readings_in turns)
-  pub sends : Sends sent_before sent_after losses_before losses_after posts
-  pub spends : spent ≡ length turns
+abbrev pub EndsSettling : {S : Type 0} → Role S → Boot → ℕ → Served S → (Doing → Type 0) → Status → Type 0
+EndsSettling role boot period s leaves (status.DiskFault count) = RewritingEnds role boot period s leaves
+EndsSettling role boot period s leaves status.OutOfMemory = leaves nothing ⊎ RewritingEnds role boot period s leaves
+EndsSettling role boot period s leaves _ = ⊥
 
 -- an event was handled, on what the node sees of its records
 pub record HasActed {S : Type 0} (told : Bool) (role : Role S) (boot : Boot) (old : Served S) (happens : Event) (new : Served S)
-    (handed : List Datagram → Type 0) : Type 0 where
+    (mailed : List Datagram → Type 0) : Type 0 where
   pub seen : List Record
   pub sees : Sees told old.kept seen
   pub is : new ≡ handles told role boot 0 old seen happens
-  pub sends : handed (mails role boot 0 old seen happens)
+  pub mails_are : mailed (mails role boot 0 old seen happens)

@@ -2,7 +2,8 @@ ghost use Rattle.std.specs.Prelude.{◌≡◌, [], ◌∷◌, IfOk, IfErr};
 ghost use Rattle.xt_protocol.specs.Forgetting.{rewritten};
 ghost use Rattle.object_store.specs.Access.{records_of, disk_of};
 ghost use Rattle.object_store.specs.Texts.{AreRecords};
-ghost use Rattle.node_runs.specs.Keeping.{KeepsOn, KeepsWith};
+ghost use Rattle.node_runs.specs.BatchEnds.{KeepsDoing};
+ghost use Rattle.node_runs.specs.Keeping.{KeepsOn};
 ghost use Rattle.node_runs.specs.Runs.{is_due};
 ghost use Rattle.node_loop.specs.Events.{HasDiskCause};
 ghost use Rattle.node_loop.specs.Stores.{IsRewritten, store_in};
@@ -50,7 +51,7 @@ pub fn rewrite<D: Disk>(
     requires { AreRecords (rewritten keep.now (records_of store)) }
     ensures made { IfOk result (λ made. IsRewritten keep.now store made) }
     ensures ends { IfErr result (λ ended. EndsRewriting keep.now
-        (KeepsWith D.is_told D.moment D.left_since (disk_of store) ended.disk (records_of store))
+        (KeepsDoing D.is_told D.moment D.left_since (disk_of store) ended.disk (records_of store))
         ended.status) }
     ensures keeps { IfOk result (λ made. KeepsOn D.is_told D.moment D.left_since (disk_of store)
         (disk_of (store_in made)) (records_of store ∷ records_of (store_in made) ∷ [])) }

@@ -2,6 +2,7 @@ ghost use Rattle.std.specs.Prelude.{◌≡◌, ◌≤◌, ◌<◌, ◌^◌, ◌�
 ghost use Rattle.xt_base.specs.Faults.{Rose};
 ghost use Rattle.node_runs.specs.Links.{Reads};
 ghost use Rattle.node_runs.specs.Serving.{HasServeCause};
+ghost use Rattle.std.specs.Option.{IfSome, IfNone};
 ghost use Rattle.node_loop.specs.Turns.{Opened, HasBegun, CannotBegin, IsWithin, turn_of};
 
 use node_links::{Clock, Got, Link};
@@ -19,12 +20,18 @@ pub enum Opening {
     Piece { from: Address, len: usize },
 }
 
-/// Receives a datagram, if some time is left to the next Wake.
-fn receive<L: Link>(link: &mut L, left: u64, buf: &mut [u8]) -> Result<Opening, Failed>
+/// Receives a datagram, if some time is left to the next Wake. Where something waits to be put, it doesn't wait for one: None then, where no
+/// datagram is there or no time is left.
+fn receive<L: Link>(
+    link: &mut L,
+    left: u64,
+    waits: bool,
+    buf: &mut [u8],
+) -> Result<Option<Opening>, Failed>
     requires room { 65536 ≤ length buf.old }
     ensures long { length buf.new ≡ length buf.old }
-    ensures opened { IfOk result (λ opening. Opened left (L.given link.old) (L.given link.new)
-        buf.new opening) }
+    ensures opened { IfOk result (λ opening. IfSome opening (Opened left (L.given link.old) (L.given link.new) buf.new)) }
+    ensures nothing { IfOk result (λ opening. IfNone opening (L.given link.new ≡ L.given link.old)) }
     ensures sent { (L.sent link.new ≡ L.sent link.old)
         × (L.loss_count link.new ≡ L.loss_count link.old) }
     ensures faults { IfOk result (λ opening. L.fault_count link.new ≡ L.fault_count link.old) }
@@ -32,11 +39,20 @@ fn receive<L: Link>(link: &mut L, left: u64, buf: &mut [u8]) -> Result<Opening, 
         × Rose (L.fault_count link.old) (L.fault_count link.new)) }
 {
     if left == 0 {
-        return Ok(Opening::NoTimeLeft);
+        return Ok(if waits {
+            None
+        } else {
+            Some(Opening::NoTimeLeft)
+        });
     }
-    match link.receive(left, buf)? {
-        Got::Piece { from, len } => Ok(Opening::Piece { from, len }),
-        Got::NothingYet => Ok(Opening::NothingCame),
+    let most = if waits { 0 } else { left };
+    match link.receive(most, buf)? {
+        Got::Piece { from, len } => Ok(Some(Opening::Piece { from, len })),
+        Got::NothingYet => Ok(if waits {
+            None
+        } else {
+            Some(Opening::NothingCame)
+        }),
     }
 }
 
@@ -54,20 +70,25 @@ fn read<C: Clock>(clock: &mut C) -> Result<u64, Failed>
 
 /// Begins a turn: a receive, if some time is left to the next Wake, and after it a reading of the clock. A receive can wait for longer
 /// than the drift, so a node that read the clock first could act on a lease that is over.
+///
+/// Where something waits to be put, only a datagram that is there already begins a turn: None where none is, or no time is left.
 #[tactic(auto, using(crate::proofs::Beginning::has_begun, crate::proofs::Beginning::is_within, crate::proofs::Beginning::unread, crate::proofs::Beginning::given))]
 pub fn begin<L: Link, C: Clock>(
     link: &mut L,
     clock: &mut C,
     left: u64,
+    waits: bool,
     buf: &mut [u8],
-) -> Result<(Opening, u64), Status>
+) -> Result<Option<(Opening, u64)>, Status>
     requires room { 65536 ≤ length buf.old }
     ensures long { length buf.new ≡ length buf.old }
     ensures sent { (L.sent link.new ≡ L.sent link.old)
         × (L.loss_count link.new ≡ L.loss_count link.old) }
-    ensures begun { IfOk result (λ begun. HasBegun left (L.given link.old) (L.given link.new)
-        (C.readings clock.old) (C.readings clock.new) (turn_of buf.new begun.0 begun.1)) }
-    ensures within { IfOk result (λ begun. IsWithin buf.new begun.0 × (begun.1 < 2 ^ 62)) }
+    ensures begun { IfOk result (λ begun. IfSome begun (λ begun. HasBegun left (L.given link.old) (L.given link.new)
+        (C.readings clock.old) (C.readings clock.new) (turn_of buf.new begun.0 begun.1))) }
+    ensures nothing { IfOk result (λ begun. IfNone begun ((L.given link.new ≡ L.given link.old)
+        × (C.readings clock.new ≡ C.readings clock.old))) }
+    ensures within { IfOk result (λ begun. IfSome begun (λ begun. IsWithin buf.new begun.0 × (begun.1 < 2 ^ 62))) }
     ensures faults { IfOk result (λ begun. (L.fault_count link.new ≡ L.fault_count link.old)
         × (C.fault_count clock.new ≡ C.fault_count clock.old)) }
     ensures cannot { IfErr result (CannotBegin left (L.given link.old) (L.given link.new)
@@ -75,13 +96,16 @@ pub fn begin<L: Link, C: Clock>(
     ensures cause { IfErr result (HasServeCause (L.fault_count link.old) (L.fault_count link.new)
         (C.fault_count clock.old) (C.fault_count clock.new)) }
 {
-    let Ok(opening) = receive(link, left, buf) else {
+    let Ok(opening) = receive(link, left, waits, buf) else {
         return Err(Status::LinkFault {
             count: link.faults(),
         });
     };
+    let Some(opening) = opening else {
+        return Ok(None);
+    };
     match read(clock) {
-        Ok(reading) => Ok((opening, reading)),
+        Ok(reading) => Ok(Some((opening, reading))),
         Err(_) => Err(Status::ClockFault {
             count: clock.faults(),
         }),

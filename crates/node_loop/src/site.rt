@@ -1,22 +1,24 @@
-ghost use Rattle.std.specs.Prelude.{◌≡◌, ◌≤◌, ◌<◌, ◌^◌, ℕ, List, [], ◌∷◌, length, max, true, Option, Some, None, Ok, IfOk, IfErr};
+ghost use Rattle.std.specs.Prelude.{◌≡◌, ◌≤◌, ◌<◌, ◌^◌, ℕ, List, [], ◌∷◌, length, max, true, Option, Some, None, Ok, IfOk, IfErr, OnOk};
 ghost use Rattle.std.specs.Option.{IfSome};
 ghost use Rattle.std.specs.List.{All};
 ghost use Rattle.xt_messages.specs.Limits.{FitsEvent, FitsMessage};
 ghost use Rattle.xt_protocol.specs.Forgetting.{rewritten};
-ghost use Rattle.object_store.specs.Access.{records_of, disk_of};
+ghost use Rattle.object_store.specs.Access.{records_of};
 ghost use Rattle.object_store.specs.Texts.{AreRecords};
 ghost use Rattle.node_loop.specs.Stores.{journal_at};
-ghost use Rattle.node_runs.specs.Links.{Sends};
-ghost use Rattle.node_runs.specs.Keeping.{KeepsOn, KeepsPut};
+ghost use Rattle.object_store.specs.Waits.{CanBePut, recs_of};
 ghost use Rattle.node_runs.specs.Runs.{meets, event_in, ends_event, next_due, is_due, area_at};
-ghost use Rattle.node_loop.specs.Events.{HasDiskCause, EndsEvent, Seeing};
+ghost use Rattle.node_loop.specs.Batched.{HasMailed, HasStaged, held_of, journal_then, kept_of, posts_of, puts_of};
+ghost use Rattle.node_loop.specs.Events.{EndsEvent, Seeing};
 ghost use Rattle.node_loop.specs.Turns.{standing, turn_of, IsWithin, HasActed};
-ghost use Rattle.node_loop.specs.Settling.{HasSettled, served_of};
+ghost use Rattle.node_loop.specs.Settling.{HasSettled};
 
+use crate::batch::Batch;
 use crate::compacting::{Rewritten, is_due, rewrite};
-use crate::event::{Ended, Handled, handle};
+use crate::event::{Ended, Stop, step_on};
 use crate::node::Node;
 use crate::opening::Opening;
+use crate::sending::mail;
 use disk_model::Disk;
 use node_links::Link;
 use node_mail::{Ears, Sender};
@@ -107,62 +109,76 @@ impl<N: Node> Site<N> {
         }
     }
 
-    /// Handles an event: the step, its record, its messages. Those to the node itself are queued.
+    /// Handles an event: its step; its record then waits after the others, and its messages are sent at once or wait. Those to the node itself are
+    /// queued.
     pub fn act<L: Link, D: Disk>(
         &mut self,
         alloc: Global,
         link: &mut L,
-        store: Store<D>,
+        store: &Store<D>,
+        batch: &mut Batch,
         happens: &Event,
-    ) -> Result<Store<D>, Ended<D>>
+    ) -> Result<(), Stop>
         requires clock { self.old.clock < 2 ^ 62 }
         requires event { FitsEvent happens.now }
         requires home { self.old.sender.node ≡ (N.role self.old.node).node }
-        requires runs { N.runs_on self.old.node (records_of store) }
+        requires runs { N.runs_on self.old.node (kept_of store.now batch.old) }
         requires own { All FitsMessage self.old.own }
+        requires may { CanBePut store.now (recs_of batch.old.records) }
         ensures given { L.given link.new ≡ L.given link.old }
         ensures faults { L.fault_count link.new ≡ L.fault_count link.old }
         ensures same { (self.new.sender.node ≡ self.old.sender.node)
             × (self.new.sender.boot ≡ self.old.sender.boot)
             × (self.new.clock ≡ self.old.clock)
             × (self.new.woken ≡ self.old.woken) }
-        ensures role { IfOk result (λ kept. N.role self.new.node ≡ N.role self.old.node) }
-        ensures runs { IfOk result (λ kept. N.runs_on self.new.node (records_of kept)) }
-        ensures own { IfOk result (λ kept. All FitsMessage self.new.own) }
-        ensures acted { IfOk result (λ kept. HasActed D.is_told (N.role self.old.node) self.old.sender.boot
-            (served_of N.state self.old store) happens.now (served_of N.state self.new kept)
-            (Sends (L.sent link.old) (L.sent link.new) (L.loss_count link.old) (L.loss_count link.new))) }
-        ensures ends { IfErr result (λ ended. Seeing D.is_told (records_of store) (λ seen. EndsEvent
+        ensures role { OnOk result (N.role self.new.node ≡ N.role self.old.node) }
+        ensures runs { OnOk result (N.runs_on self.new.node (kept_of store.now batch.new)) }
+        ensures own { OnOk result (All FitsMessage self.new.own) }
+        ensures may { CanBePut store.now (recs_of batch.new.records) }
+        ensures acted { OnOk result (HasActed D.is_told (N.role self.old.node) self.old.sender.boot
+            (held_of N.state self.old store.now batch.old).now happens.now (held_of N.state self.new store.now batch.new).now
+            (HasMailed (puts_of D.is_told batch.new) (posts_of batch.old) (posts_of batch.new)
+            (L.sent link.old) (L.sent link.new) (L.loss_count link.old) (L.loss_count link.new))) }
+        ensures ends { IfErr result (λ why. Seeing D.is_told (kept_of store.now batch.old) (λ seen. EndsEvent
             ((N.role self.old.node).step seen (N.state self.old.node) self.old.clock happens.now)
             (N.role self.old.node).node self.old.sender.boot self.old.ears.book self.old.sender.count
-            (journal_at store)
-            (Sends (L.sent link.old) (L.sent link.new) (L.loss_count link.old) (L.loss_count link.new))
-            (KeepsPut D.is_told D.moment D.left_since (disk_of store) ended.disk (records_of store))
-            ended.status)) }
-        ensures keeps { IfOk result (λ kept. KeepsOn D.is_told D.moment D.left_since
-            (disk_of store) (disk_of kept) (records_of store ∷ records_of kept ∷ [])) }
-        ensures disk { IfOk result (λ kept. D.fault_count (disk_of kept) ≡
-            D.fault_count (disk_of store)) }
-        ensures disk_cause { IfErr result (λ ended. HasDiskCause (D.fault_count (disk_of store))
-            (D.fault_count ended.disk) ended.status) }
+            (journal_then store.now batch.old)
+            (HasMailed (puts_of D.is_told batch.new) (posts_of batch.old) (posts_of batch.new)
+            (L.sent link.old) (L.sent link.new) (L.loss_count link.old) (L.loss_count link.new))
+            (HasStaged D.is_told (journal_then store.now batch.old) (puts_of D.is_told batch.old) (puts_of D.is_told batch.new))
+            why)) }
     {
-        let Handled { store, outs } = handle(
+        let turned = match step_on(
             alloc,
             &mut self.node,
-            &mut self.sender,
-            &mut self.part,
-            self.ears.book(),
-            link,
             store,
+            &batch.records,
             self.clock,
             happens,
-        )?;
+        ) {
+            Ok(turned) => turned,
+            Err(why) => return Err(why),
+        };
+        let (rec, outs, _marks) = turned.into_parts();
+        match batch.stage(alloc, store, &rec) {
+            Ok(()) => {}
+            Err(why) => return Err(why),
+        }
+        let book = self.ears.book();
+        let Ok(()) = mail(
+            alloc,
+            &mut self.sender,
+            &mut self.part,
+            book,
+            outs.as_slice(),
+            batch,
+            link,
+        ) else {
+            return Err(Stop::With(Status::OutOfMemory));
+        };
         match self.own.put(self.sender.node, outs) {
-            Ok(()) => Ok(store),
-            Err(_) => Err(Ended {
-                status: Status::OutOfMemory,
-                disk: store.close(),
-            }),
+            Ok(()) => Ok(()),
+            Err(_) => Err(Stop::With(Status::OutOfMemory)),
         }
     }
 

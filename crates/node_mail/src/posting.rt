@@ -4,8 +4,9 @@ ghost use Rattle.xt_messages.specs.Limits.{FitsMessage};
 ghost use Rattle.xt_parts.specs.Part.{parts_of};
 ghost use Rattle.node_runs.specs.Links.{Sends, OneSent};
 ghost use Rattle.node_runs.specs.Posting.{sent_to, datagrams_to};
+ghost use Rattle.node_mail.specs.Posts.{datagrams_of, datagrams_of_all};
 
-use crate::book::Book;
+use crate::packed::Post;
 use message_ids::MessageId;
 use node_links::Link;
 use std::alloc::{AllocError, Global};
@@ -58,9 +59,60 @@ fn send_parts<L: Link>(
     all
 }
 
+impl Post {
+    /// Sends the message, part by part, and reports whether each part was taken. What fails is lost.
+    pub fn release<L: Link>(&self, part: &mut PartBuffer, link: &mut L) -> bool
+        ensures given { L.given link.new ≡ L.given link.old }
+        ensures faults { L.fault_count link.new ≡ L.fault_count link.old }
+        ensures sends { (sends : Sends (L.sent link.old) (L.sent link.new) (L.loss_count link.old)
+            (L.loss_count link.new) (datagrams_of self.now))
+            × (result ≡ list_all (λ ok. ok) sends.taken) }
+    {
+        send_parts(link, &self.address, part, self.id, self.frame.as_slice())
+    }
+}
+
+/// Sends messages, one after the other, each as `Post::release` does.
+pub fn release_all<L: Link>(posts: &[Post], part: &mut PartBuffer, link: &mut L)
+    ensures given { L.given link.new ≡ L.given link.old }
+    ensures faults { L.fault_count link.new ≡ L.fault_count link.old }
+    ensures sends { Sends (L.sent link.old) (L.sent link.new) (L.loss_count link.old)
+        (L.loss_count link.new) (datagrams_of_all posts.now) }
+{
+    for post in posts {
+        post.release(part, link);
+    }
+}
+
 impl Sender {
-    /// Sends a message to a node that has an address, part by part, and reports whether each part was taken. Where no number is
-    /// left, the error is `OutOfMemory`.
+    /// Numbers a message to a node that has an address, and encodes it. Where no number is left, the error is `OutOfMemory`, as it is
+    /// where memory runs out; the sender is as it was then.
+    pub fn pack(&mut self, alloc: Global, address: &Address, msg: &Msg) -> Result<Post, OutOfMemory>
+        requires fits { FitsMessage msg.now }
+        ensures same { (self.new.node ≡ self.old.node) × (self.new.boot ≡ self.old.boot) }
+        ensures count { OnOk result (self.new ≡ record self.old { count = self.old.count + 1 }) }
+        ensures packed { IfOk result (λ post. datagrams_of post ≡ datagrams_to address.now
+            (record { sender = self.old.node; boot = self.old.boot; number = self.old.count + 1 })
+            msg.now) }
+        ensures none { OnErr result (self.new ≡ self.old) }
+    {
+        let frame = encode(alloc, msg)?;
+        let Some(number) = self.count.checked_add(1) else {
+            return Err(AllocError);
+        };
+        self.count = number;
+        Ok(Post {
+            address: *address,
+            id: MessageId {
+                sender: self.node,
+                boot: self.boot,
+                number,
+            },
+            frame,
+        })
+    }
+
+    /// Sends a message to a node that has an address at once: `pack`, then `release`.
     pub fn post<L: Link>(
         &mut self,
         alloc: Global,
@@ -81,17 +133,8 @@ impl Sender {
         ensures none { OnErr result ((self.new ≡ self.old) × (L.sent link.new ≡ L.sent link.old)
             × (L.loss_count link.new ≡ L.loss_count link.old)) }
     {
-        let frame = encode(alloc, msg)?;
-        let Some(number) = self.count.checked_add(1) else {
-            return Err(AllocError);
-        };
-        self.count = number;
-        let id = MessageId {
-            sender: self.node,
-            boot: self.boot,
-            number,
-        };
-        Ok(send_parts(link, address, part, id, frame.as_slice()))
+        let post = self.pack(alloc, address, msg)?;
+        Ok(post.release(part, link))
     }
 
     /// Sends a message to a node that has an address. What fails is lost.

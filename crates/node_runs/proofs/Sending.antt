@@ -93,7 +93,7 @@ sends_join before between after first losses later posted others s t = record {
 
 -- ---- messages after messages
 
-one-behind : (node : NodeId) (boot : Boot) (book : Book) (before : Posted) (msg : Msg)
+pub one-behind : (node : NodeId) (boot : Boot) (book : Book) (before : Posted) (msg : Msg)
     → one_posted node boot book before msg
     ≡ record { count = (one_posted node boot book (none_posted before.count) msg).count; datagrams = before.datagrams ++ (one_posted node boot book (none_posted before.count) msg).datagrams }
 one-behind node boot book before msg = by_self (msg.to.0 == node.0) (address_of book msg.to)

@@ -5,3 +5,5 @@ pub mod Runs
 pub mod Serving
 pub mod Keeping
 pub mod Laws
+pub mod Batches
+pub mod BatchEnds

@@ -253,11 +253,3 @@ module _ {S : Type 0} (told : Bool) (role : Role S) (boot : Boot) (period : ℕ)
     passed : (left after : Option (List Datagram)) (turns more : List Turn) (before mailed : List Datagram) (s next : Served S)
         → Comes to_come start left turns before s → Passes left s more mailed next → Takes left after (datagrams_in more)
         → Comes to_come start after (turns ++ more) (before ++ mailed) next
-
-  -- What the node kept at each moment from its start on: at its start, and after each pass.
-  module _ (to_come : Option (List Datagram)) (start : Served S) where
-    abbrev pub kept_through : (left : Option (List Datagram)) (turns : List Turn) (before : List Datagram) (s : Served S)
-        → Comes to_come start left turns before s → List (List Record)
-    kept_through left turns before s begun = start.kept ∷ []
-    kept_through left turns before s (passed between after turns' more before' mailed s' next comes one gives) =
-        kept_through between turns' before' s' comes ++ next.kept ∷ []

@@ -24,7 +24,21 @@ fn receives<L: Link>(link: &mut L, bytes: &[u8], buf: &mut [u8]) -> bool
         && matches!(link.receive(1, buf), Ok(Got::NothingYet))
 }
 
-/// Whether one link reaches another one at this address.
+/// Whether a link receives these four bytes without waiting, in one of a million looks: the system may take its time to deliver them.
+fn finds<L: Link>(link: &mut L, bytes: &[u8], buf: &mut [u8]) -> bool
+    requires { 65536 ≤ length buf.old }
+{
+    for _ in 0..1_000_000u32 {
+        match link.receive(0, buf) {
+            Ok(Got::Piece { from: _, len }) => return len == 4 && buf.starts_with(bytes),
+            Ok(Got::NothingYet) => {}
+            Err(_) => return false,
+        }
+    }
+    false
+}
+
+/// Whether one link reaches another one at this address, which doesn't wait where it isn't to.
 fn reaches<L: Link>(one: &mut L, other: &mut L, address: &str, buf: &mut [u8]) -> bool
     requires { 65536 ≤ length buf.old }
 {
@@ -33,8 +47,11 @@ fn reaches<L: Link>(one: &mut L, other: &mut L, address: &str, buf: &mut [u8]) -
     };
     one.bind("127.0.0.1:0").is_ok()
         && other.bind(address).is_ok()
+        && matches!(other.receive(0, buf), Ok(Got::NothingYet))
         && one.send(&to, b"sent").is_ok()
         && receives(other, b"sent", buf)
+        && one.send(&to, b"next").is_ok()
+        && finds(other, b"next", buf)
 }
 
 /// Whether an address that a link has is refused to another one, which counts that.

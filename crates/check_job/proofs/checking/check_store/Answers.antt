@@ -1,6 +1,6 @@
 use Rattle.std.proofs.Common.{◌≤◌, ◌<◌, [], inr, length, refl, rules, subst, sym}
 use Rattle.std.specs.Prelude.{IsTrue}
-use Rattle.node_jobs.proofs.Disks.{medium_of}
+use Rattle.store_loading.proofs.Disks.{medium_of}
 use Rattle.check_job.specs.Checking.{IsCheck}
 use Rattle.check_job.proofs.Found.{finds_some, none_are, none_told, unwritten_chosen}
 use Rattle.check_job.proofs.checking.check_store.Goals as goal

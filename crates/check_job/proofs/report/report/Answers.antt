@@ -1,5 +1,5 @@
 use Rattle.std.proofs.Common.{◌≡◌, ◌∙◌, ◌++◌, ℕ, List, ap, codes, string_bytes}
-use Rattle.node_jobs.specs.Boots.{stored_boot}
+use Rattle.store_loading.specs.Boots.{stored_boot}
 use Rattle.check_job.specs.Reports.{kind_lines, line_text, old_kinds, replica_kinds, request_kinds}
 use Rattle.check_job.proofs.Lines.{after, from_none}
 use Rattle.check_job.proofs.report.report.Goals as goal

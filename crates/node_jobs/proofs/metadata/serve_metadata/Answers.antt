@@ -1,11 +1,12 @@
 use Rattle.std.proofs.Common.{ap, subst, sym, refl, ◌∙◌}
 use Rattle.object_store.specs.Access.{records_of}
 use Rattle.server_rows.specs.Metadata.{MrcNode, catalogue_of}
-use Rattle.node_loop.proofs.Coming.{cause_from}
 use Rattle.node_roles.specs.Roles.{mrc_role}
-use Rattle.node_jobs.specs.Jobs.{HasSinkCause, ended_early}
-use Rattle.node_jobs.proofs.Bare.{mrc_bare, taken_bare}
+use Rattle.store_loading.specs.Sinks.{HasSinkCause}
+use Rattle.node_jobs.specs.Jobs.{ended_early}
+use Rattle.store_loading.proofs.Bare.{mrc_bare, taken_bare}
 use Rattle.node_jobs.proofs.Jobs.{served_sink}
+use Rattle.node_jobs.proofs.Causes.{ended_early_by, served_from}
 use Rattle.node_jobs.proofs.Serving.{can_be_taken, has_done, mrc_ready, mrc_told, not_started}
 use Rattle.node_jobs.proofs.metadata.serve_metadata.Goals as goal
 
@@ -40,10 +41,13 @@ returns-clause-job g c =
 
 pub returns-clause-cause : goal.returns-clause-cause
 returns-clause-cause g c =
-    cause_from _ _ _ _ _ _ _ c.in-Ok-get_ready.ensures.faults.0 c.in-Ok-get_ready.ensures.faults.1 c.serve.ensures.cause
+    served_from _ _ _ _ _ _ _ c.in-Ok-get_ready.ensures.faults.0 c.in-Ok-get_ready.ensures.faults.1 c.serve.ensures.cause
 
 pub returns-clause-sink : goal.returns-clause-sink
 returns-clause-sink g c =
     let sink = g.K.Sink.fault_count c.args.out.now in
     subst (λ n. HasSinkCause sink n c.serve.result.0) (sym c.in-Ok-get_ready.ensures.faults.2)
     (served_sink _ _ _ _ _ _ _ _ _ _ _ _ _ _ sink c.serve.result.0 c.serve.ensures.served)
+
+pub returns-in-Err-clause-cause : goal.returns-in-Err-clause-cause
+returns-in-Err-clause-cause g c = ended_early_by _ _ _ _ c.in-Err.field-0.status c.in-Err.ensures.cause

@@ -1,25 +1,13 @@
-use Rattle.std.proofs.Common.{inr, rules}
-use Rattle.std.proofs.lemmas.Result.{IfErr-weaker, IfOk-weaker}
-use Rattle.node_jobs.specs.Disks.{CannotOpen, IsLoaded, IsUnloaded}
-use Rattle.node_jobs.proofs.Disks.{loaded_from, medium_of, unloaded_from}
+use Rattle.std.proofs.Common.{inr}
+use Rattle.std.proofs.lemmas.Result.{IfErr-weaker}
+use Rattle.store_loading.specs.Loading.{IsUnloaded}
+use Rattle.node_jobs.specs.Disks.{CannotOpen}
+use Rattle.store_loading.proofs.Disks.{medium_of}
 use Rattle.node_jobs.proofs.opening.opened.Goals as goal
-
-pub returns-clause-loads : goal.returns-clause-loads
-returns-clause-loads g c =
-    let D = g.D.Disk in
-    let m = medium_of D in
-    let disk = c.args.disk in
-    let chosen = c.attach.new.self in
-    IfOk-weaker c.loaded.result (λ store. IsLoaded m chosen c.args.limit store) (λ store. IsLoaded m disk c.args.limit store)
-    (λ store is. loaded_from m disk chosen c.attach.ensures.same c.attach.ensures.time (λ image told left. g.met.D.Disk.only_now disk image told left)
-    (search rules) c.args.limit store is) c.loaded.ensures.loads
 
 pub returns-clause-ends : goal.returns-clause-ends
 returns-clause-ends g c =
-    let D = g.D.Disk in
-    let m = medium_of D in
+    let m = medium_of g.D.Disk in
     let disk = c.args.disk in
-    let chosen = c.attach.new.self in
-    IfErr-weaker c.loaded.result (λ ended. IsUnloaded m chosen ended.disk ended.status) (λ ended. CannotOpen m disk ended.disk ended.status)
-    (λ ended is. inr (unloaded_from m disk chosen c.attach.ensures.same c.attach.ensures.time (λ image told left. g.met.D.Disk.only_now disk image told left)
-    (search rules) ended.disk ended.status is)) c.loaded.ensures.ends
+    IfErr-weaker c.store_at.result (λ ended. IsUnloaded m disk ended.disk ended.status) (λ ended. CannotOpen m disk ended.disk ended.status)
+    (λ ended is. inr is) c.store_at.ensures.ends

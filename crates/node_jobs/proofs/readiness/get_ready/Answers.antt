@@ -1,9 +1,11 @@
 use Rattle.std.proofs.Common.{ap, ◌∙◌, refl, subst}
 use Rattle.xt_messages.specs.Limits.{FitsBoot}
 use Rattle.object_store.specs.Access.{disk_of, records_of}
-use Rattle.node_loop.proofs.Coming.{cause_from}
+use Rattle.node_loop.specs.Stores.{journal_at}
 use Rattle.node_jobs.specs.Jobs.{unbooted, unready}
-use Rattle.node_jobs.proofs.Disks.{closed_from, medium_of, room_at, stand_at, unbooted_from}
+use Rattle.node_jobs.proofs.Causes.{cause_from}
+use Rattle.store_loading.proofs.Disks.{medium_of}
+use Rattle.node_jobs.proofs.Disks.{closed_from, stand_at, unbooted_from, within_at}
 use Rattle.node_jobs.proofs.readiness.get_ready.Goals as goal
 
 pub returns-in-Err-clause-cause : goal.returns-in-Err-clause-cause
@@ -21,7 +23,7 @@ returns-in-Err-booted-clause-ends g c =
       readings = refl;
       held = refl;
     })
-    (unbooted_from (medium_of D) (λ disk t image told le is. g.met.D.Disk.counts_now disk t image told le is) c.args.disk c.args.serving.now.settings.limit c.in-Ok.store
+    (unbooted_from (medium_of D) c.args.disk c.args.serving.now.settings.limit c.in-Ok.store
     c.in-Err-booted.ended.disk c.in-Err-booted.ended.status opened.loads c.in-Err-booted.ensures.ends)
 
 pub returns-in-Ok-ready-clause-ready : goal.returns-in-Ok-ready-clause-ready
@@ -34,7 +36,7 @@ returns-in-Ok-ready-clause-ready g c =
       records = records_of old;
       are = opened.loads.are;
       stand = stand_at c.args.disk c.args.serving.now.settings.limit old new c.in-Ok-booted.booted.1 opened.loads boots;
-      room = room_at c.args.disk c.args.serving.now.settings.limit old new c.in-Ok-booted.booted.1 opened.loads boots;
+      within = within_at c.args.disk c.args.serving.now.settings.limit old new c.in-Ok-booted.booted.1 opened.loads boots;
       fits = subst FitsBoot boots.boot_is boots.fits;
       all_are = boots.records;
       boot_is = boots.boot_is;
@@ -57,6 +59,9 @@ returns-in-Err-ready-clause-ends g c =
     unready (record {
       records = records_of old;
       are = opened.loads.are;
+      journal = journal_at new;
+      stand = stand_at c.args.disk c.args.serving.now.settings.limit old new c.in-Ok-booted.booted.1 opened.loads boots;
+      within = within_at c.args.disk c.args.serving.now.settings.limit old new c.in-Ok-booted.booted.1 opened.loads boots;
       fits = subst FitsBoot boots.boot_is boots.fits;
       silent = record { given = opened.given; sent = opened.sent.0; losses = opened.sent.1 };
       why = c.in-Err-ready.ensures.ends;

@@ -15,7 +15,7 @@ returns-in-Ok-Done g c =
       same = (refl, refl, refl, refl, refl);
       same_role = c.forget.ensures.same;
       runs = subst (λ (rs : List Record). N.runs_on c.forget.new.self rs) (sym made.0) (c.forget.ensures.runs c.requires.needs (records_of store) c.requires.runs);
-      passed = λ period to_come. has_rewritten g.D.Disk.is_told (N.role s.node) s.sender.boot period to_come (served_of N.state s store) c.args.keep.now
+      settles = λ period. has_rewritten g.D.Disk.is_told (N.role s.node) s.sender.boot period (served_of N.state s store) c.args.keep.now
           (record { woken = c.requires.woken; due = c.requires.due; needs = c.requires.needs }) _ _ _ (c.forget.ensures.state c.requires.needs) made.0 made.1 made.2;
       ends = λ period. tt;
       keeps = rw c.in-Ok-Done.field-0-is at c.in-Ok-Done.ensures.keeps;
@@ -33,7 +33,7 @@ returns-in-Ok-NoRoom g c =
       same = (refl, refl, refl, refl, refl);
       same_role = refl;
       runs = subst (λ (rs : List Record). N.runs_on s.node rs) (sym made.0) c.requires.runs;
-      passed = λ period to_come. has_no_room g.D.Disk.is_told (N.role s.node) s.sender.boot period to_come (served_of N.state s store) c.args.keep.now
+      settles = λ period. has_no_room g.D.Disk.is_told (N.role s.node) s.sender.boot period (served_of N.state s store) c.args.keep.now
           (record { woken = c.requires.woken; due = c.requires.due; needs = c.requires.needs }) _ _ made.2.0 made.0 made.1 made.2.1;
       ends = λ period. tt;
       keeps = rw c.in-Ok-NoRoom.field-0-is at c.in-Ok-NoRoom.ensures.keeps;

@@ -7,7 +7,7 @@ use Rattle.xt_journal.specs.Placed.{placed_at, placed_on}
 use Rattle.xt_journal.specs.Reading.{IsTheReading, Stands, payloads_on}
 use Rattle.object_store.specs.Texts.{texts_of, IsFirstBad}
 use Rattle.replica_records.specs.RecordText.{record_text}
-use Rattle.node_jobs.specs.Disks.{HasBadRecord}
+use Rattle.store_loading.specs.Loading.{HasBadRecord}
 
 pub bad_inside : (payloads : List (List ℕ)) (count index : ℕ) → length payloads ≡ count → IsFirstBad payloads index → index < count
 bad_inside payloads count index all bad =

@@ -1,18 +1,15 @@
+//! The store of a node is loaded from its disk.
 ghost use Rattle.std.specs.Prelude.{◌≡◌, IfOk, IfErr};
 ghost use Rattle.xt_protocol.specs.Folds.{boot_after};
-ghost use Rattle.node_jobs.specs.Boots.{stored_boot};
-ghost use Rattle.node_jobs.specs.Disks.{medium, IsLoaded, IsUnloaded, IsBooted, CannotBoot};
+ghost use Rattle.store_loading.specs.Boots.{stored_boot};
+ghost use Rattle.store_loading.specs.Loading.{medium, IsLoaded, IsUnloaded};
 
 use disk_model::Disk;
-use node_loop::{Ended, keep};
+use node_loop::Ended;
 use object_store::{Store, StoreErr};
 use std::alloc::Global;
-use xt_base::Boot;
 use xt_journal::{Journal, LoadErr};
-use xt_messages::{Limited, Record, Status};
-
-/// The greatest number of a boot.
-const LAST_BOOT: u64 = (1 << 62) - 1;
+use xt_messages::{Record, Status};
 
 /// The bytes of a record that come before its payload: its gate (1), and the payload's length (4).
 const BEFORE_PAYLOAD: u64 = 1 + 4;
@@ -68,6 +65,30 @@ pub fn loaded<D: Disk>(alloc: Global, disk: D, limit: u64) -> Result<Store<D>, E
     }
 }
 
+/// Chooses the file at this path, and loads the store that it holds, whose journal has this limit in bytes. A file that isn't there is made.
+pub fn store_at<D: Disk>(
+    alloc: Global,
+    path: &str,
+    limit: u64,
+    disk: D,
+) -> Result<Store<D>, Ended<D>>
+    ensures loads { IfOk result (λ store. IsLoaded
+        (medium D.is_told D.kept D.moment D.left_since D.fault_count) disk limit store) }
+    ensures ends { IfErr result (λ ended. IsUnloaded
+        (medium D.is_told D.kept D.moment D.left_since D.fault_count) disk ended.disk ended.status) }
+{
+    let mut disk = disk;
+    if disk.attach(path).is_err() {
+        return Err(Ended {
+            status: Status::DiskFault {
+                count: disk.faults(),
+            },
+            disk,
+        });
+    }
+    loaded(alloc, disk, limit)
+}
+
 /// The boot that a record starts, or else the one before it.
 fn boot_after(boot: u64, rec: &Record) -> u64
     ensures { result ≡ boot_after boot rec.now }
@@ -87,28 +108,4 @@ pub fn stored_boot(records: &[Record]) -> u64
         boot = boot_after(boot, rec);
     }
     boot
-}
-
-/// Appends the record of the boot after the last one in the store, and returns that boot.
-pub fn booted<D: Disk>(alloc: Global, store: Store<D>) -> Result<(Store<D>, Boot), Ended<D>>
-    ensures boots { IfOk result (λ done. IsBooted
-        (medium D.is_told D.kept D.moment D.left_since D.fault_count) store done.0 done.1) }
-    ensures ends { IfErr result (λ ended. CannotBoot
-        (medium D.is_told D.kept D.moment D.left_since D.fault_count) store ended.disk ended.status) }
-{
-    let last = stored_boot(store.records());
-    if last >= LAST_BOOT {
-        return Err(Ended {
-            status: Status::Limit {
-                what: Limited::Boots,
-                limit: LAST_BOOT,
-            },
-            disk: store.close(),
-        });
-    }
-    let boot = Boot(last + 1);
-    match keep(alloc, store, &Record::Boot { boot }) {
-        Ok(store) => Ok((store, boot)),
-        Err(ended) => Err(ended),
-    }
 }

@@ -8,10 +8,10 @@ use Rattle.xt_messages.specs.declared.status.Status.TheVariants as status
 use Rattle.object_store.specs.Loading.{ArePlaced}
 use Rattle.object_store.specs.Texts.{IsFirstBad}
 use Rattle.object_store.proofs.Callers.{are_placed}
-use Rattle.node_jobs.specs.Disks.{IsUnloaded}
-use Rattle.node_jobs.proofs.Disks.{left_unloaded, loaded_is, medium_of, rose_by_one}
-use Rattle.node_jobs.proofs.Places.{bad_inside, bad_record}
-use Rattle.node_jobs.proofs.loading.loaded.Goals as goal
+use Rattle.store_loading.specs.Loading.{IsUnloaded}
+use Rattle.store_loading.proofs.Disks.{left_unloaded, loaded_is, medium_of, rose_by_one}
+use Rattle.store_loading.proofs.Places.{bad_inside, bad_record}
+use Rattle.store_loading.proofs.loading.loaded.Goals as goal
 
 pub load-requires-2-clause-placed : goal.load-requires-2-clause-placed
 load-requires-2-clause-placed g c = λ told.

@@ -1,0 +1,3 @@
+pub mod Boots
+pub mod Loading
+pub mod Sinks
