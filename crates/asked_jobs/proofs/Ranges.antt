@@ -8,7 +8,7 @@ use Rattle.hex.specs.declared.error.FromHexError.{FromHexError}
 use Rattle.hex.proofs.HexLemmas.{decode_of-ok}
 use Rattle.command_words.specs.Commands.{program_app}
 use Rattle.command_words.specs.Ranges.{is_decimal, is_lower_hex, number_of, number_in, number_or, key_of, some_bytes, times_of}
-use Rattle.command_words.specs.Jobs.{Rows, named, node_at, path_at, address_at, mode_at, number_at, number_or_at, number_if_at, key_at, key_if_at, range_of, range_at, layout_at, stripe_at, pattern_at, registered_at, register_of, unregister_of, mkdir_of, rmdir_of, rm_of, mv_of, chmod_of, ls_of, stat_of, replicas_of, put_of, get_of, truncate_of, file_order, tree_order, order_of, directory_at, client_of, settings_of, who_of, serving_of, make_of, osd_of, mrc_of, dir_of, check_of, cluster_of, node_job, job_in, chosen_in, unless_fault, job_of}
+use Rattle.command_words.specs.Jobs.{Rows, named, node_at, path_at, address_at, mode_at, number_at, number_or_at, number_if_at, key_at, key_if_at, range_of, range_at, layout_at, stripe_at, pattern_at, registered_at, register_of, unregister_of, mkdir_of, rmdir_of, rm_of, mv_of, chmod_of, ls_of, stat_of, replicas_of, put_of, get_of, truncate_of, file_order, tree_order, order_of, directory_at, client_of, settings_of, who_of, serving_of, make_of, osd_of, mrc_of, dir_of, check_of, stopped_settings, scrub_of, sweep_of, cluster_of, store_job, node_job, job_in, chosen_in, unless_fault, job_of}
 use Rattle.command_words.specs.declared.job.Settings.{Settings}
 use Rattle.command_words.specs.declared.job.Serving.{Serving}
 use Rattle.command_words.specs.declared.job.Defaults.{Defaults}
@@ -307,16 +307,35 @@ unfolding check_of
 check_within base rows =
     then_some IsWithin _ (number_or_at 1 1073741824 base.limit (codes "limit") rows) (λ limit. mapped IsWithin _ (path_at (codes "store") rows) (λ store. tt {0}))
 
+scrub_within : (base : Defaults) (rows : Rows) → IfSome (scrub_of base rows) IsWithin
+unfolding scrub_of
+scrub_within base rows =
+    then_some IsWithin _ (stopped_settings base rows) (λ settings. mapped IsWithin _ (path_at (codes "store") rows) (λ store. tt {0}))
+
+sweep_within : (base : Defaults) (rows : Rows) → IfSome (sweep_of base rows) IsWithin
+unfolding sweep_of
+sweep_within base rows =
+    then_some IsWithin _ (stopped_settings base rows) (λ settings.
+    then_if IsWithin IsSecret _ (key_at rows) (key_at_within rows) (λ key secret.
+    then_some IsWithin _ (path_at (codes "mrc-store") rows) (λ metadata.
+    mapped IsWithin _ (path_at (codes "store") rows) (λ store. secret))))
+
+store_job_within : (base : Defaults) (name : Text) (rows : Rows) → HasTurns base.settings → IfSome (store_job base false name rows) IsWithin
+unfolding store_job
+store_job_within base name rows few =
+    either IsWithin (named (codes "check") name) _ _ (check_within base.settings rows)
+    (either IsWithin (named (codes "scrub") name) _ _ (scrub_within base rows)
+    (either IsWithin (named (codes "sweep") name) _ _ (sweep_within base rows)
+    (mapped_if IsWithin IsClientWithin (λ client. job.Client client) (client_of base false name rows) (client_within base name rows few)
+    (λ client within. within))))
+
 node_job_within : (base : Defaults) (name : Text) (rows : Rows) → HasTurns base.settings → IfSome (node_job base false name rows) IsWithin
 unfolding node_job
 node_job_within base name rows few =
     either IsWithin (named (codes "osd") name) _ _ (osd_within base.settings rows)
     (either IsWithin (named (codes "mrc") name) _ _ (mrc_within base.settings rows)
     (either IsWithin (named (codes "dir") name) _ _ (dir_within base.settings rows)
-    (either IsWithin (named (codes "cluster") name) _ _ (cluster_within base rows few)
-    (either IsWithin (named (codes "check") name) _ _ (check_within base.settings rows)
-    (mapped_if IsWithin IsClientWithin (λ client. job.Client client) (client_of base false name rows) (client_within base name rows few)
-    (λ client within. within))))))
+    (either IsWithin (named (codes "cluster") name) _ _ (cluster_within base rows few) (store_job_within base name rows few))))
 
 job_within : (base : Defaults) (name : Text) (rows : Rows) → HasTurns base.settings → IfSome (job_in base false name rows) IsWithin
 unfolding job_in
@@ -395,16 +414,34 @@ unfolding check_of
 check_line base rows =
     then_some IsLineJob _ (number_or_at 1 1073741824 base.limit (codes "limit") rows) (λ limit. mapped IsLineJob _ (path_at (codes "store") rows) (λ store. tt {0}))
 
+scrub_line : (base : Defaults) (rows : Rows) → IfSome (scrub_of base rows) IsLineJob
+unfolding scrub_of
+scrub_line base rows =
+    then_some IsLineJob _ (stopped_settings base rows) (λ settings. mapped IsLineJob _ (path_at (codes "store") rows) (λ store. tt {0}))
+
+sweep_line : (base : Defaults) (rows : Rows) → IfSome (sweep_of base rows) IsLineJob
+unfolding sweep_of
+sweep_line base rows =
+    then_some IsLineJob _ (stopped_settings base rows) (λ settings.
+    then_some IsLineJob _ (key_at rows) (λ key.
+    then_some IsLineJob _ (path_at (codes "mrc-store") rows) (λ metadata. mapped IsLineJob _ (path_at (codes "store") rows) (λ store. tt {0}))))
+
+store_line : (base : Defaults) (name : Text) (rows : Rows) → IfSome (store_job base true name rows) IsLineJob
+unfolding store_job
+store_line base name rows =
+    either IsLineJob (named (codes "check") name) _ _ (check_line base.settings rows)
+    (either IsLineJob (named (codes "scrub") name) _ _ (scrub_line base rows)
+    (either IsLineJob (named (codes "sweep") name) _ _ (sweep_line base rows)
+    (mapped_if IsLineJob IsLineWithin (λ client. job.Client client) (client_of base true name rows) (line_within base name rows)
+    (λ client within. within))))
+
 node_line : (base : Defaults) (name : Text) (rows : Rows) → IfSome (node_job base true name rows) IsLineJob
 unfolding node_job
 node_line base name rows =
     either IsLineJob (named (codes "osd") name) _ _ (osd_line base.settings rows)
     (either IsLineJob (named (codes "mrc") name) _ _ (mrc_line base.settings rows)
     (either IsLineJob (named (codes "dir") name) _ _ (dir_line base.settings rows)
-    (either IsLineJob (named (codes "cluster") name) _ _ (cluster_line base rows)
-    (either IsLineJob (named (codes "check") name) _ _ (check_line base.settings rows)
-    (mapped_if IsLineJob IsLineWithin (λ client. job.Client client) (client_of base true name rows) (line_within base name rows)
-    (λ client within. within))))))
+    (either IsLineJob (named (codes "cluster") name) _ _ (cluster_line base rows) (store_line base name rows))))
 
 job_line : (base : Defaults) (name : Text) (rows : Rows) → IfSome (job_in base true name rows) IsLineJob
 unfolding job_in

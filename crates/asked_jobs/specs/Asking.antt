@@ -48,6 +48,7 @@ IsWithin (job.Make number size) = IsSize size
 IsWithin (job.Osd id directory serving) = IsSecret serving.key
 IsWithin (job.Mrc directory serving) = IsSecret serving.key
 IsWithin (job.Dir serving) = IsSecret serving.key
+IsWithin (job.Sweep sweep) = IsSecret sweep.key
 IsWithin (job.Cluster cluster) = IsClusterWithin cluster
 IsWithin (job.Client client) = IsClientWithin client
 IsWithin _ = Unit {0}

@@ -107,6 +107,25 @@ dir_app =
 unfoldable pub check_app : App
 check_app = needed_or_free false (codes "limit") (needed_or_free true (codes "store") (plain_app (codes "check")))
 
+-- The options that the work on the store of a stopped node shares with nodes and clients: who asks and where the DIR is serve the work that
+-- asks a running node.
+unfoldable pub scrub_app : App
+scrub_app =
+    own_options
+    (needed_or_free false (codes "key")
+    (needed_or_free false (codes "dir")
+    (needed_or_free true (codes "store")
+    (plain_app (codes "scrub")))))
+
+unfoldable pub sweep_app : App
+sweep_app =
+    own_options
+    (needed_or_free false (codes "dir")
+    (needed_or_free true (codes "key")
+    (needed_or_free true (codes "mrc-store")
+    (needed_or_free true (codes "store")
+    (plain_app (codes "sweep"))))))
+
 unfoldable pub cluster_app : App
 cluster_app =
     own_options
@@ -192,7 +211,10 @@ unfoldable pub with_runs : App → App
 with_runs all = joined (joined (joined all (replay_app)) (audit_app)) (make_app)
 
 unfoldable pub with_nodes : App → App
-with_nodes all = joined (joined (joined (joined (joined all (osd_app)) (mrc_app)) (dir_app)) (cluster_app)) (check_app)
+with_nodes all = joined (joined (joined (joined all (osd_app)) (mrc_app)) (dir_app)) (cluster_app)
+
+unfoldable pub with_stores : App → App
+with_stores all = joined (joined (joined all (check_app)) (scrub_app)) (sweep_app)
 
 unfoldable pub with_registry_commands : Bool → App → App
 with_registry_commands inside all =
@@ -233,7 +255,7 @@ top_app = record (new_app (codes "xtfs")) {
 
 -- what a line of a cluster doesn't have
 unfoldable pub base_app : Bool → App
-base_app inside = if inside then top_app else with_nodes (with_runs top_app)
+base_app inside = if inside then top_app else with_stores (with_nodes (with_runs top_app))
 
 -- all commands, or those that may stand in a line of a cluster
 unfoldable pub program_app : Bool → App

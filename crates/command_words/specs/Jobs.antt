@@ -10,6 +10,7 @@ use Rattle.xt_base.specs.declared.ids.NodeId.{NodeId}
 use Rattle.command_words.specs.declared.job.Settings.{Settings}
 use Rattle.command_words.specs.declared.job.Serving.{Serving}
 use Rattle.command_words.specs.declared.job.Given.{Given}
+use Rattle.command_words.specs.declared.job.SweepJob.{SweepJob}
 use Rattle.command_words.specs.declared.job.Defaults.{Defaults}
 use Rattle.command_words.specs.declared.job.ClientJob.{ClientJob}
 use Rattle.command_words.specs.declared.job.Who.{Who}
@@ -57,6 +58,13 @@ path_at id rows = option_and_then (text_in 65535) (first_of id rows)
 
 unfoldable pub address_at : Text → Rows → Option Text
 address_at id rows = option_and_then (text_in 64) (first_of id rows)
+
+abbrev pub address_if : Option Text → Option (Option Text)
+address_if None = Some None
+address_if (Some text) = option_map (λ address. Some address) (text_in 64 text)
+
+unfoldable pub address_if_at : Text → Rows → Option (Option Text)
+address_if_at id rows = address_if (first_of id rows)
 
 unfoldable pub mode_at : Text → Rows → Option ℕ
 mode_at id rows = option_and_then mode_of (first_of id rows)
@@ -265,6 +273,28 @@ unfoldable pub check_of : Settings → Rows → Option Job
 check_of base rows = option_and_then (λ limit. option_map (λ store. job.Check store limit)
     (path_at (codes "store") rows)) (number_or_at 1 1073741824 base.limit (codes "limit") rows)
 
+-- The options that the work on the store of a stopped node has besides its own: each is in its range.
+unfoldable pub stopped_settings : Defaults → Rows → Option Settings
+stopped_settings base rows =
+    option_and_then (λ settings. option_and_then (λ who. option_and_then (λ directory. option_map (λ key. settings)
+    (key_if_at rows))
+    (address_if_at (codes "dir") rows))
+    (who_of base.who rows))
+    (settings_of base.settings rows)
+
+unfoldable pub scrub_of : Defaults → Rows → Option Job
+scrub_of base rows = option_and_then (λ settings. option_map (λ store. job.Scrub store settings.limit)
+    (path_at (codes "store") rows)) (stopped_settings base rows)
+
+unfoldable pub sweep_of : Defaults → Rows → Option Job
+sweep_of base rows =
+    option_and_then (λ settings. option_and_then (λ key. option_and_then (λ metadata. option_map (λ store.
+    job.Sweep (record { settings = settings; store = store; metadata = metadata; key = key }))
+    (path_at (codes "store") rows))
+    (path_at (codes "mrc-store") rows))
+    (key_at rows))
+    (stopped_settings base rows)
+
 -- the options that were given, for the children
 unfoldable pub given_of : Rows → Given
 given_of rows = record {
@@ -294,14 +324,21 @@ cluster_of base rows =
     (number_at 1 65000 (codes "port") rows))
     (number_at 1 50 (codes "osds") rows)
 
+-- the work on the store of a stopped node, or what a client does
+unfoldable pub store_job : Defaults → Bool → Text → Rows → Option Job
+store_job base inside name rows =
+    if named (codes "check") name then check_of base.settings rows
+    else if named (codes "scrub") name then scrub_of base rows
+    else if named (codes "sweep") name then sweep_of base rows
+    else option_map (λ client. job.Client client) (client_of base inside name rows)
+
 unfoldable pub node_job : Defaults → Bool → Text → Rows → Option Job
 node_job base inside name rows =
     if named (codes "osd") name then osd_of base.settings rows
     else if named (codes "mrc") name then mrc_of base.settings rows
     else if named (codes "dir") name then dir_of base.settings rows
     else if named (codes "cluster") name then cluster_of base rows
-    else if named (codes "check") name then check_of base.settings rows
-    else option_map (λ client. job.Client client) (client_of base inside name rows)
+    else store_job base inside name rows
 
 unfoldable pub job_in : Defaults → Bool → Text → Rows → Option Job
 job_in base inside name rows =

@@ -54,6 +54,10 @@ in_range =
     codes "cluster --osds 50 --port 65000 --store s --key 00ff" ∷
     codes "check --store s" ∷
     codes "check --limit 1073741824 --store s" ∷
+    codes "scrub --store s" ∷
+    codes "scrub --store s --limit 1073741824 --dir 127.0.0.1:7400 --key 00ff --tries 1 --turns 1" ∷
+    codes "sweep --store s1 --mrc-store s901 --key 00ff" ∷
+    codes "sweep --mrc-store s901 --store s1 --key 00ff --lease 3 --drift 1 --dir 127.0.0.1:7400 --id 0" ∷
     codes "register 4294967295 2 127.0.0.1:7401 --dir 127.0.0.1:7400" ∷
     codes "unregister 4294967295 --dir 127.0.0.1:7400" ∷
     codes "nodes --dir 127.0.0.1:7400 --tries 1" ∷
@@ -141,6 +145,16 @@ out_of_range =
     codes "check --store s --limit 0" ∷
     codes "check --store s --limit 1073741825" ∷
     codes "check --store s --key 00ff" ∷
+    codes "scrub" ∷
+    codes "scrub s" ∷
+    codes "scrub --store s --limit 0" ∷
+    codes "scrub --store s --tries 0" ∷
+    codes "scrub --store s --key 0" ∷
+    codes "sweep --store s1 --mrc-store s901" ∷
+    codes "sweep --store s1 --key 00ff" ∷
+    codes "sweep --mrc-store s901 --key 00ff" ∷
+    codes "sweep --store s1 --mrc-store s901 --key 00f" ∷
+    codes "sweep --store s1 --mrc-store s901 --key 00ff --drift 0" ∷
     codes "register 4294967296 1 a --dir 127.0.0.1:7400" ∷
     codes "register 0 1 a --dir 127.0.0.1:7400" ∷
     codes "register 900 1 a --dir 127.0.0.1:7400" ∷
@@ -188,6 +202,8 @@ abbrev pub lines_out_of_range : List Text
 lines_out_of_range =
     codes "replay" ∷
     codes "check --store s" ∷
+    codes "scrub --store s" ∷
+    codes "sweep --store s1 --mrc-store s901 --key 00ff" ∷
     codes "replicas /a --dir 127.0.0.1:7400" ∷
     codes "unregister 900" ∷
     codes "nodes --dir 127.0.0.1:7400" ∷
@@ -212,6 +228,17 @@ IsMv = asked false (codes "mv --dir 127.0.0.1:7400 /a --tries=3 /b") ≡ Some (j
 
 abbrev pub IsChecked : Type 0
 IsChecked = asked false (codes "check --limit 4096 --store s7") ≡ Some (job.Check (codes "s7") 4096)
+
+abbrev pub IsScrubbed : Type 0
+IsScrubbed = asked false (codes "scrub --limit 4096 --store s7 --id 501") ≡ Some (job.Scrub (codes "s7") 4096)
+
+abbrev pub IsSwept : Type 0
+IsSwept = asked false (codes "sweep --store s7 --mrc-store s901 --key 0a --lease 2000 --drift 100") ≡ Some (job.Sweep (record {
+  settings = record usual_settings { times = record { lease = 2000; drift = 100 } };
+  store = codes "s7";
+  metadata = codes "s901";
+  key = 10 ∷ [];
+}))
 
 abbrev pub IsPut : Type 0
 IsPut = asked true (codes "put /a --pattern 10 --striped 3 --key 00ff") ≡ Some (job.Client (record {

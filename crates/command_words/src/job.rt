@@ -147,6 +147,18 @@ pub struct ClusterJob {
     pub given: Given,
 }
 
+/// A sweep of an OSD's store by the store of an MRC: both have stopped.
+#[derive(Drop)]
+pub struct SweepJob {
+    pub settings: Settings,
+    /// The path of the OSD's store, at most 65,535 bytes.
+    pub store: Name,
+    /// The path of the MRC's store, at most 65,535 bytes.
+    pub metadata: Name,
+    /// The secret of the site, 1 to 64 bytes.
+    pub key: Octets,
+}
+
 /// What the words ask for.
 #[derive(Drop)]
 pub enum Job {
@@ -174,6 +186,12 @@ pub enum Job {
         store: Name,
         limit: u64,
     },
+    /// The path of a store, at most 65,535 bytes, and how many bytes its journal may have, up to 2^30.
+    Scrub {
+        store: Name,
+        limit: u64,
+    },
+    Sweep(SweepJob),
     Cluster(ClusterJob),
     Client(ClientJob),
 }

@@ -13,7 +13,9 @@ mod words;
 mod worked;
 
 pub use commands::program;
-pub use job::{ClientJob, ClusterJob, Defaults, Given, Job, Layout, Order, Serving, Settings, Who};
+pub use job::{
+    ClientJob, ClusterJob, Defaults, Given, Job, Layout, Order, Serving, Settings, SweepJob, Who,
+};
 pub use ranges::{is_key, mode_of, number_in};
 pub use words::read_words;
 pub use worked::worked_words;

@@ -2,11 +2,11 @@
 
 ghost use Rattle.std.specs.Prelude.{◌≡◌, ◌≤◌, IfSome, IfOk, codes, option_map};
 ghost use Rattle.clap.specs.Words.{first_of, subcommand_rows_of};
-ghost use Rattle.command_words.specs.Jobs.{rows_in, number_at, number_or_at, number_if_at, node_at, node_or_at, path_at, address_at, mode_at, settings_of, who_of, registered_at, register_of, unregister_of, mv_of, chmod_of, mkdir_of, rmdir_of, rm_of, ls_of, stat_of, replicas_of, flag_at, key_at, key_if_at, layout_at, stripe_at, pattern_at, put_of, range_at, get_of, truncate_of, file_order, tree_order, order_of, directory_at, client_of, serving_of, make_of, osd_of, mrc_of, dir_of, check_of, given_of, cluster_of, node_job, job_in, chosen_in};
+ghost use Rattle.command_words.specs.Jobs.{rows_in, number_at, number_or_at, number_if_at, node_at, node_or_at, path_at, address_at, address_if_at, mode_at, settings_of, who_of, registered_at, register_of, unregister_of, mv_of, chmod_of, mkdir_of, rmdir_of, rm_of, ls_of, stat_of, replicas_of, flag_at, key_at, key_if_at, layout_at, stripe_at, pattern_at, put_of, range_at, get_of, truncate_of, file_order, tree_order, order_of, directory_at, client_of, serving_of, make_of, osd_of, mrc_of, dir_of, check_of, stopped_settings, scrub_of, sweep_of, given_of, cluster_of, store_job, node_job, job_in, chosen_in};
 ghost use Rattle.std.specs.Str.{bytes_eq};
 
 use crate::job::{
-    ClientJob, ClusterJob, Defaults, Given, Job, Layout, Order, Serving, Settings, Who,
+    ClientJob, ClusterJob, Defaults, Given, Job, Layout, Order, Serving, Settings, SweepJob, Who,
 };
 use crate::ranges::{address_of, key_of, mode_of, name_of, number_in, times_of};
 use clap::ArgMatches;
@@ -141,6 +141,20 @@ fn address_at(found: &ArgMatches<'_>, id: &str) -> Option<Address>
     match text_at(found, id) {
         Some(text) => address_of(text),
         None => None,
+    }
+}
+
+/// The address, or none where it wasn't given.
+#[tactic(auto, unfolding(crate::specs::Jobs::address_if_at))]
+fn address_if_at(found: &ArgMatches<'_>, id: &str) -> Option<Option<Address>>
+    ensures { result ≡ address_if_at id.now (rows_in found.now) }
+{
+    match text_at(found, id) {
+        Some(text) => match address_of(text) {
+            Some(address) => Some(Some(address)),
+            None => None,
+        },
+        None => Some(None),
     }
 }
 
@@ -726,6 +740,78 @@ fn check_of(
     }
 }
 
+/// The options that the work on the store of a stopped node has besides its own, where each is in its range.
+#[tactic(auto, unfolding(crate::specs::Jobs::stopped_settings))]
+fn stopped_settings(
+    alloc: Global,
+    base: &Defaults,
+    found: &ArgMatches<'_>,
+) -> Result<Option<Settings>, OutOfMemory>
+    ensures { IfOk result (λ made. made ≡ stopped_settings base.now (rows_in found.now)) }
+{
+    let Some(settings) = settings_of(&base.settings, found) else {
+        return Ok(None);
+    };
+    let Some(_who) = who_of(&base.who, found) else {
+        return Ok(None);
+    };
+    let Some(_dir) = address_if_at(found, "dir") else {
+        return Ok(None);
+    };
+    match key_if_at(alloc, found)? {
+        Some(_key) => Ok(Some(settings)),
+        None => Ok(None),
+    }
+}
+
+/// `scrub`
+#[tactic(auto, unfolding(crate::specs::Jobs::scrub_of))]
+fn scrub_of(
+    alloc: Global,
+    base: &Defaults,
+    found: &ArgMatches<'_>,
+) -> Result<Option<Job>, OutOfMemory>
+    ensures { IfOk result (λ made. made ≡ scrub_of base.now (rows_in found.now)) }
+{
+    let Some(settings) = stopped_settings(alloc, base, found)? else {
+        return Ok(None);
+    };
+    let limit = settings.limit;
+    match path_at(alloc, found, "store")? {
+        Some(store) => Ok(Some(Job::Scrub { store, limit })),
+        None => Ok(None),
+    }
+}
+
+/// `sweep`
+#[tactic(auto, unfolding(crate::specs::Jobs::sweep_of))]
+fn sweep_of(
+    alloc: Global,
+    base: &Defaults,
+    found: &ArgMatches<'_>,
+) -> Result<Option<Job>, OutOfMemory>
+    ensures { IfOk result (λ made. made ≡ sweep_of base.now (rows_in found.now)) }
+{
+    let Some(settings) = stopped_settings(alloc, base, found)? else {
+        return Ok(None);
+    };
+    let Some(key) = key_at(alloc, found)? else {
+        return Ok(None);
+    };
+    let Some(metadata) = path_at(alloc, found, "mrc-store")? else {
+        return Ok(None);
+    };
+    match path_at(alloc, found, "store")? {
+        Some(store) => Ok(Some(Job::Sweep(SweepJob {
+            settings,
+            store,
+            metadata,
+            key,
+        }))),
+        None => Ok(None),
+    }
+}
+
 /// The options that were given, for the children.
 #[tactic(auto, unfolding(crate::specs::Jobs::given_of))]
 fn given_of(found: &ArgMatches<'_>) -> Given
@@ -778,7 +864,32 @@ fn cluster_of(
     }
 }
 
-/// A node, a cluster, a check or a client.
+/// The work on the store of a stopped node, or what a client does.
+#[tactic(auto, unfolding(crate::specs::Jobs::store_job))]
+fn store_job(
+    alloc: Global,
+    base: &Defaults,
+    inside: bool,
+    name: &str,
+    found: &ArgMatches<'_>,
+) -> Result<Option<Job>, OutOfMemory>
+    ensures { IfOk result (λ made. made ≡ store_job base.now inside name.now (rows_in found.now)) }
+{
+    if is_word(name, "check") {
+        check_of(alloc, &base.settings, found)
+    } else if is_word(name, "scrub") {
+        scrub_of(alloc, base, found)
+    } else if is_word(name, "sweep") {
+        sweep_of(alloc, base, found)
+    } else {
+        match client_of(alloc, base, inside, name, found)? {
+            Some(client) => Ok(Some(Job::Client(client))),
+            None => Ok(None),
+        }
+    }
+}
+
+/// A node, a cluster, the work on a store, or a client.
 #[tactic(auto, unfolding(crate::specs::Jobs::node_job))]
 fn node_job(
     alloc: Global,
@@ -797,13 +908,8 @@ fn node_job(
         dir_of(alloc, &base.settings, found)
     } else if is_word(name, "cluster") {
         cluster_of(alloc, base, found)
-    } else if is_word(name, "check") {
-        check_of(alloc, &base.settings, found)
     } else {
-        match client_of(alloc, base, inside, name, found)? {
-            Some(client) => Ok(Some(Job::Client(client))),
-            None => Ok(None),
-        }
+        store_job(alloc, base, inside, name, found)
     }
 }
 

@@ -58,7 +58,7 @@ fn damaged(rt: &impl Abort, alloc: Global, draws: &mut Draws, part: &[u8]) -> Oc
 }
 
 /// A datagram from the other end.
-fn push(rt: &impl Abort, given: &mut Datagrams, bytes: Octets) {
+pub fn push(rt: &impl Abort, given: &mut Datagrams, bytes: Octets) {
     let peer = Address::of("b:1").expect(rt, OTHERWISE);
     given.push(Datagram { peer, bytes }).expect(rt, OTHERWISE);
 }
@@ -144,7 +144,7 @@ static CASES: [Case; 3] = [
 ];
 
 /// Asserts what was sent.
-fn assert_sent(
+pub fn assert_sent(
     rt: &impl Abort,
     alloc: Global,
     sent: &[Datagram],

@@ -9,7 +9,7 @@ use std::test::*;
 use xt_base::Octets;
 
 /// A journal of two starts.
-const TWO: &str = "
+pub const TWO: &str = "
     58544653 4a524e4c 00000001 a5 00000009 01 0000000000000001
     a5 00000009 01 0000000000000002 00";
 

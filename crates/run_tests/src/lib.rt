@@ -8,6 +8,8 @@
 #[cfg(test)]
 mod appends;
 #[cfg(test)]
+mod batches;
+#[cfg(test)]
 mod bytes;
 #[cfg(test)]
 mod datagrams;
@@ -23,6 +25,10 @@ mod runs;
 mod schedules;
 #[cfg(test)]
 mod serving;
+#[cfg(test)]
+mod starts;
+#[cfg(test)]
+mod torn;
 
 /// The message where a test stops that can't go on.
 #[cfg(test)]

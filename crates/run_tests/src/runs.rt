@@ -4,7 +4,7 @@ ghost use Rattle.std.specs.Prelude.{◌≤◌, ◌<◌, ◌↔◌, ◌^◌, IsTr
 ghost use Rattle.std.specs.List.{All};
 
 use crate::OTHERWISE;
-use disk_model::MemoryDisk;
+use disk_model::{MemoryDisk, Stop};
 use node_links::{
     Datagram, Datagrams, FixedClock, MemoryLink, MemorySink, MemorySource, NoSpawner,
 };
@@ -28,12 +28,14 @@ pub const MRC: &[&str] = &[
 pub const DIR: &[&str] = &["dir", "--listen", "a:1", "--store", "s", "--key", "00"];
 
 /// What is outside of a run: the bytes of its source and of its disk, the readings of its clock in milliseconds, and the numbers of
-/// the calls that fail.
+/// the calls that fail, of its disk, its link, its clock and its spawner; and where its disk stops, if it does.
 #[derive(Clone, Copy)]
 pub struct Outside<'a> {
     pub source: &'a [u8],
     pub disk: &'a [u8],
     pub readings: &'a [u64],
+    pub device: &'a [u64],
+    pub stop: Option<Stop>,
     pub link: &'a [u64],
     pub clock: &'a [u64],
     pub child: &'a [u64],
@@ -44,6 +46,8 @@ pub const NOTHING: Outside<'static> = Outside {
     source: &[],
     disk: &[],
     readings: &[],
+    device: &[],
+    stop: None,
     link: &[],
     clock: &[],
     child: &[],
@@ -117,7 +121,7 @@ pub fn ran<R: Threads + Sync + Abort>(
     assert!(rt; fits);
     let words = words(rt, alloc, texts, turns);
     let bytes = Octets::of(alloc, outside.disk).expect(rt, OTHERWISE);
-    let disk = MemoryDisk::new(alloc, bytes, CallList::new(alloc), None);
+    let disk = MemoryDisk::new(alloc, bytes, calls(rt, alloc, outside.device), outside.stop);
     let bytes = Octets::of(alloc, outside.source).expect(rt, OTHERWISE);
     let mut source = MemorySource::new(bytes, 4_096, CallList::new(alloc));
     let sink = MemorySink::new(alloc, 4_096, CallList::new(alloc));

@@ -133,7 +133,7 @@ pub fn shows_progress(rt: &HostRuntime, job: &Job) -> bool {
 
 /// Tells what may be wrong with the store of a job whose disk has failed.
 fn tell_disk(rt: &HostRuntime, job: &Job) -> io::Result<()> {
-    if let Job::Check { store, .. } = job {
+    if let Job::Check { store, .. } | Job::Scrub { store, .. } = job {
         return tell_store(rt, store.as_str());
     }
     match node_of(job) {

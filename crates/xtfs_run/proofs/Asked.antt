@@ -9,7 +9,7 @@ use Rattle.command_words.specs.declared.job.Order.TheVariants as order
 use Rattle.command_words.specs.declared.job.Job.{Job}
 use Rattle.command_words.specs.declared.job.Job.TheVariants as job
 use Rattle.xt_messages.specs.declared.status.Status.{Status}
-use Rattle.node_jobs.specs.Disks.{Medium}
+use Rattle.store_loading.specs.Loading.{Medium}
 use Rattle.xtfs_run.specs.Around.{Environment}
 use Rattle.xtfs_run.specs.Doing.{Does}
 

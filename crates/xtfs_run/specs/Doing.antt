@@ -7,6 +7,7 @@ use Rattle.xt_messages.specs.declared.status.Status.TheVariants as status
 use Rattle.command_words.specs.declared.job.ClientJob.{ClientJob}
 use Rattle.command_words.specs.declared.job.ClusterJob.{ClusterJob}
 use Rattle.command_words.specs.declared.job.Serving.{Serving}
+use Rattle.command_words.specs.declared.job.SweepJob.{SweepJob}
 use Rattle.command_words.specs.declared.job.Job.{Job}
 use Rattle.command_words.specs.declared.job.Job.TheVariants as job
 use Rattle.schedule_lines.specs.Causes.{HasCause, CausesEnd}
@@ -15,7 +16,7 @@ use Rattle.trace_audit.specs.Audit.{IsAudit, Completes}
 use Rattle.replay_job.specs.Job.{IsReplayJob}
 use Rattle.world_disk.specs.Room.{journal_room}
 use Rattle.make_job.specs.Make.{IsMake}
-use Rattle.node_jobs.specs.Disks.{Medium}
+use Rattle.store_loading.specs.Loading.{Medium}
 use Rattle.node_jobs.specs.Jobs.{NodeJob}
 use Rattle.node_jobs.specs.Roles.{dir_job, mrc_job, osd_job}
 use Rattle.client_jobs.specs.Running.{IsClientJob}
@@ -23,7 +24,9 @@ use Rattle.cluster_job.specs.Cluster.{IsClusterJob}
 use Rattle.xtfs_run.specs.Around.{Environment, IsUnread, IsAlone, IsChildless, IsOffline, IsTimeless, outside, around, counts, moment}
 use Rattle.xtfs_run.specs.Nodes.{NodeCounts, IsNodeCommand}
 use Rattle.check_job.specs.Checking.{IsCheck}
-use Rattle.xtfs_run.specs.Stores.{StoreJob, IsStoreCommand}
+use Rattle.scrub_job.specs.Scrubbing.{IsScrub}
+use Rattle.xtfs_run.specs.Stores.{StoreJob, IsStoreCommand, SweepCounts, IsSweepCommand}
+use Rattle.sweep_job.specs.Sweeping as sweeping
 
 module _ {D : Type 0} where
   -- the last line of a status is put, and nothing else is done
@@ -71,6 +74,20 @@ module _ {D : Type 0} where
     pub timeless : IsTimeless before after
     pub childless : IsChildless before after
 
+  -- the part of it that a sweep uses
+  abbrev pub around_sweep : Environment D → sweeping.Around D
+  around_sweep e = record { readings = e.readings; held = e.held; disk = e.disk }
+
+  abbrev pub sweep_counts : Environment D → SweepCounts
+  sweep_counts e = record { clock = e.clock_faults; sink = e.sink_faults }
+
+  -- the store of a stopped OSD is swept, by that of a stopped metadata server
+  pub record Sweeps (m : Medium D) (sweep : SweepJob) (before after : Environment D) (said : Status) : Type 0 where
+    pub command : IsSweepCommand m sweep (around_sweep before) (around_sweep after) (sweep_counts before) (sweep_counts after) said
+    pub unread : IsUnread before after
+    pub offline : IsOffline before after
+    pub childless : IsChildless before after
+
   pub record Commands (client : ClientJob) (before after : Environment D) (said : Status) : Type 0 where
     pub command : IsClientJob client (around before) (around after) before.left after.left before.held after.held
         before.sink_faults after.sink_faults (counts before) (counts after) said
@@ -99,6 +116,10 @@ module _ {D : Type 0} where
         → Serves m (osd_job id directory serving) before after said → Does m asked before after said
     checks : (store : List ℕ) (limit : ℕ) → asked ≡ Some (job.Check store limit)
         → WorksOnStore (IsCheck m limit) before after said → Does m asked before after said
+    scrubs : (store : List ℕ) (limit : ℕ) → asked ≡ Some (job.Scrub store limit)
+        → WorksOnStore (IsScrub m limit) before after said → Does m asked before after said
+    sweeps : (sweep : SweepJob) → asked ≡ Some (job.Sweep sweep)
+        → Sweeps m sweep before after said → Does m asked before after said
     clusters : (cluster : ClusterJob) → asked ≡ Some (job.Cluster cluster)
         → Clusters cluster before after said → Does m asked before after said
     commands : (client : ClientJob) → asked ≡ Some (job.Client client)

@@ -1,9 +1,10 @@
 -- what the command of a node does
 use Rattle.std.specs.Prelude.{ℕ, Option, List}
 use Rattle.xt_messages.specs.declared.status.Status.{Status}
-use Rattle.node_runs.specs.Serving.{HasServeCause}
-use Rattle.node_jobs.specs.Disks.{Medium}
-use Rattle.node_jobs.specs.Jobs.{NodeJob, Outside, IsNodeJob, HasSinkCause}
+use Rattle.node_runs.specs.BatchEnds.{HasBatchCause}
+use Rattle.store_loading.specs.Loading.{Medium}
+use Rattle.store_loading.specs.Sinks.{HasSinkCause}
+use Rattle.node_jobs.specs.Jobs.{NodeJob, Outside, IsNodeJob}
 use Rattle.client_jobs.specs.Running.{Closes}
 
 -- how often a node's link, its clock and its sink have failed
@@ -26,6 +27,6 @@ pub record IsNodeCommand {D S : Type 0} (m : Medium D) (job : NodeJob S) (before
     held = held;
     disk = after.disk;
   }) said
-  pub cause : HasServeCause counts.link risen.link counts.clock risen.clock said
+  pub cause : HasBatchCause counts.link risen.link counts.clock risen.clock said
   pub put : HasSinkCause counts.sink sink said
   pub closes : Closes held after.held sink risen.sink said ended

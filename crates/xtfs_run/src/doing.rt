@@ -3,11 +3,11 @@ ghost use Rattle.std.specs.Prelude.{◌≡◌, false, Some};
 ghost use Rattle.command_words.specs.Jobs.{job_of};
 ghost use Rattle.command_words.specs.Worked.{usual};
 ghost use Rattle.asked_jobs.specs.Asking.{IsWithin};
-ghost use Rattle.node_jobs.specs.Disks.{medium};
+ghost use Rattle.store_loading.specs.Loading.{medium};
 ghost use Rattle.xtfs_run.specs.Doing.{Does};
 
 use crate::serving::{run_directory, run_metadata, run_osd};
-use crate::stores::run_check;
+use crate::stores::{run_check, run_scrub, run_sweep};
 use asked_jobs::asked_job;
 use client_jobs::run_client;
 use cluster_job::run_cluster;
@@ -80,6 +80,8 @@ fn do_job<R: Threads + Sync, S: Source, K: Sink, L: Link, D: Disk, C: Clock, P: 
             run_osd(alloc, *id, serving, dir, out, link, disk, clock)
         }
         Job::Check { store, limit } => run_check(alloc, store, *limit, out, disk),
+        Job::Scrub { store, limit } => run_scrub(rt, alloc, store, *limit, out, disk, &NoGate),
+        Job::Sweep(sweep) => run_sweep(alloc, sweep, out, disk, clock),
         Job::Client(client) => (run_client(alloc, client, src, out, link, clock), disk),
         Job::Make { number, size } => (make(rt, alloc, *number, *size, out, &NoGate), disk),
         Job::Cluster(cluster) => {

@@ -1,7 +1,7 @@
-//! Serving as a node, and checking a store.
+//! Serving as a node.
 ghost use Rattle.std.specs.Prelude.{◌≡◌, ◌<◌, ◌≤◌};
 ghost use Rattle.asked_jobs.specs.Asking.{IsSecret};
-ghost use Rattle.node_jobs.specs.Disks.{medium};
+ghost use Rattle.store_loading.specs.Loading.{medium};
 ghost use Rattle.node_jobs.specs.Roles.{dir_job, mrc_job, osd_job};
 ghost use Rattle.xtfs_run.specs.Nodes.{IsNodeCommand};
 

@@ -1,6 +1,6 @@
 use Rattle.std.proofs.Common.{rules, Some, refl, ap, subst}
 use Rattle.asked_jobs.specs.Asking.{IsWithin}
-use Rattle.xtfs_run.specs.Doing.{replays, audits, makes, serves_directory, serves_metadata, serves_osd, checks, clusters, commands}
+use Rattle.xtfs_run.specs.Doing.{replays, audits, makes, serves_directory, serves_metadata, serves_osd, checks, scrubs, sweeps, clusters, commands}
 use Rattle.xtfs_run.proofs.Asked.{client_within, cluster_within, ends_in_file, size_within}
 use Rattle.xtfs_run.proofs.doing.do_job.Goals as goal
 
@@ -12,6 +12,9 @@ run_metadata-requires g c = subst IsWithin c.in-Mrc.is c.requires
 
 pub run_osd-requires : goal.run_osd-requires
 run_osd-requires g c = subst IsWithin c.in-Osd.is c.requires
+
+pub run_sweep-requires : goal.run_sweep-requires
+run_sweep-requires g c = subst IsWithin c.in-Sweep.is c.requires
 
 pub run_client-requires : goal.run_client-requires
 run_client-requires g c =
@@ -83,6 +86,25 @@ returns-in-Check g c =
       unread = record { left = refl; faults = refl };
       offline = record { given = refl; sent = refl; losses = refl; faults = refl };
       timeless = record { readings = refl; faults = refl };
+      childless = record { calls = refl; faults = refl };
+    })
+
+pub returns-in-Scrub : goal.returns-in-Scrub
+returns-in-Scrub g c =
+    scrubs c.in-Scrub.store c.in-Scrub.limit (ap Some c.in-Scrub.is) (record {
+      command = c.run_scrub.ensures;
+      unread = record { left = refl; faults = refl };
+      offline = record { given = refl; sent = refl; losses = refl; faults = refl };
+      timeless = record { readings = refl; faults = refl };
+      childless = record { calls = refl; faults = refl };
+    })
+
+pub returns-in-Sweep : goal.returns-in-Sweep
+returns-in-Sweep g c =
+    sweeps c.in-Sweep.sweep (ap Some c.in-Sweep.is) (record {
+      command = c.run_sweep.ensures;
+      unread = record { left = refl; faults = refl };
+      offline = record { given = refl; sent = refl; losses = refl; faults = refl };
       childless = record { calls = refl; faults = refl };
     })
 

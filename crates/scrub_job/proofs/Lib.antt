@@ -1,0 +1,4 @@
+pub mod Checked
+pub mod Seals
+pub mod Sealed
+pub mod Whole

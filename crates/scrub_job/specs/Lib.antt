@@ -1,0 +1,4 @@
+pub mod Counts
+pub mod Checked
+pub mod Sealing
+pub mod Scrubbing
