@@ -1,0 +1,10 @@
+pub mod Chains
+pub mod Frozen
+pub mod HeldRanges
+pub mod Left
+pub mod Causes
+pub mod Holdings
+pub mod Loops
+pub mod Reading
+pub mod Loading
+pub mod Made

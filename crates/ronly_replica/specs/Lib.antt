@@ -1,0 +1,9 @@
+pub mod Pins
+pub mod Faults
+pub mod Origins
+pub mod MemoryOrigins
+pub mod MemoryLaws
+pub mod Access
+pub mod Holding
+pub mod Disks
+pub mod Making
