@@ -1,0 +1,4 @@
+pub mod OneFile
+pub mod Places
+pub mod Counting
+pub mod Wakes
