@@ -50,6 +50,18 @@ REFUSED = [
     (["scrub", "--store", "s", "--limit", "0"], ["'0'", "'limit'"]),
     (["sweep", "--store", "s", "--key", "00"], ["--mrc-store"]),
     (["sweep", "--store", "s", "--mrc-store", "t", "--key", "0g"], ["'0g'", "'key'", "hex"]),
+    (["pin", *SITE, "--store", "s"], ["<path>"]),
+    (["pin", "/a", *SITE], ["--store"]),
+    (["pin", "/a", "--store", "s"], ["--dir"]),
+    (["pin", "/a", *SITE, "--store", "s", "--hex"], ["--hex"]),
+    (["pin", "/a", *SITE, "--store", "s", "--limit", "0"], ["'0'", "'limit'"]),
+    (["pin", "/a", "--store", "s", "--dir", "7400"], ["'7400'", "'dir'", "HOST:PORT", "Usage: pin"]),
+    (["rget", "/a", *SITE], ["--store"]),
+    (["rget", "/a", *SITE, "--store", "s", "--full"], ["--full"]),
+    (["rget", "/a", *SITE, "--store", "s", "--at", "5"], ["--at", "--len"]),
+    (["rget", "/a", *SITE, "--store", "s", "--at", "281474976710656", "--len", "1"], ["--at", "--len", "281474976710656"]),
+    (["rget", "/a", *SITE, "--store", "s", "--key", "0g"], ["'0g'", "'key'", "hex"]),
+    (["rget", "/a", "--store", "s", "--dir", "here"], ["'here'", "'dir'", "Usage: rget"]),
     (["stat", "/a", *SITE, "--lease", "100", "--drift", "60"], ["--drift", "--lease"]),
     (["stat", "/a", *SITE, "--tries", "0"], ["'0'", "'tries'"]),
     (["osd", "--id", "1", "--dir", "127.0.0.1:9", "--listen", "127.0.0.1:0", "--store", "s", "--key", "0g"], ["'0g'", "'key'", "hex"]),
@@ -203,7 +215,9 @@ def main():
         check("an OSD", ended.returncode == 11 and ended.stdout.startswith(b"ready 1\n"), ended)
         store = os.path.join(folder, "s")
         before = open(store, "rb").read()
-        for other in ([*words, "--id", "2"], ["mrc", *words[1:]], ["dir", *words[3:]]):
+        replica = ["/v/f", *SITE, "--store", "s", "--tries", "1", "--lease", "20", "--drift", "2"]
+        others = [[*words, "--id", "2"], ["mrc", *words[1:]], ["dir", *words[3:]], ["pin", *replica], ["rget", *replica]]
+        for other in others:
             ended = run(other, folder)
             good = ended.returncode == 13 and ended.stdout == b"" and b"osd 1" in ended.stderr
             check(f"{other} on the store of OSD 1", good and open(store, "rb").read() == before, ended)

@@ -8,9 +8,10 @@ use Rattle.hex.specs.declared.error.FromHexError.{FromHexError}
 use Rattle.hex.proofs.HexLemmas.{decode_of-ok}
 use Rattle.command_words.specs.Commands.{program_app}
 use Rattle.command_words.specs.Ranges.{is_decimal, is_lower_hex, number_of, number_in, number_or, key_of, some_bytes, times_of}
-use Rattle.command_words.specs.Jobs.{Rows, named, node_at, path_at, address_at, mode_at, number_at, number_or_at, number_if_at, key_at, key_if_at, range_of, range_at, layout_at, stripe_at, pattern_at, registered_at, register_of, unregister_of, mkdir_of, rmdir_of, rm_of, mv_of, chmod_of, ls_of, stat_of, replicas_of, put_of, get_of, truncate_of, file_order, tree_order, order_of, directory_at, client_of, settings_of, who_of, serving_of, make_of, osd_of, mrc_of, dir_of, check_of, stopped_settings, scrub_of, sweep_of, cluster_of, store_job, node_job, job_in, chosen_in, unless_fault, job_of}
+use Rattle.command_words.specs.Jobs.{Rows, named, node_at, path_at, address_at, mode_at, number_at, number_or_at, number_if_at, key_at, key_if_at, range_of, range_at, layout_at, stripe_at, pattern_at, registered_at, register_of, unregister_of, mkdir_of, rmdir_of, rm_of, mv_of, chmod_of, ls_of, stat_of, replicas_of, put_of, get_of, truncate_of, file_order, tree_order, order_of, directory_at, client_of, settings_of, who_of, serving_of, make_of, osd_of, mrc_of, dir_of, check_of, stopped_settings, scrub_of, sweep_of, replica_of, pin_of, rget_of, cluster_of, store_job, node_job, job_in, chosen_in, unless_fault, job_of}
 use Rattle.command_words.specs.declared.job.Settings.{Settings}
 use Rattle.command_words.specs.declared.job.Serving.{Serving}
+use Rattle.command_words.specs.declared.job.ReplicaJob.{ReplicaJob}
 use Rattle.command_words.specs.declared.job.Defaults.{Defaults}
 use Rattle.command_words.specs.declared.job.Layout.{Layout}
 use Rattle.command_words.specs.declared.job.Order.{Order}
@@ -320,14 +321,40 @@ sweep_within base rows =
     then_some IsWithin _ (path_at (codes "mrc-store") rows) (λ metadata.
     mapped IsWithin _ (path_at (codes "store") rows) (λ store. secret))))
 
+abbrev IsReplica : ReplicaJob → Type 0
+IsReplica replica = HasTurns replica.base.settings
+
+replica_within : (base : Defaults) (rows : Rows) → HasTurns base.settings → IfSome (replica_of base rows) IsReplica
+unfolding replica_of
+replica_within base rows few =
+    then_if IsReplica HasTurns _ (settings_of base.settings rows) (settings_within base.settings rows few) (λ settings turns.
+    then_some IsReplica _ (who_of base.who rows) (λ who.
+    then_some IsReplica _ (address_at (codes "dir") rows) (λ directory.
+    then_some IsReplica _ (key_if_at rows) (λ key.
+    then_some IsReplica _ (path_at (codes "path") rows) (λ path.
+    mapped IsReplica _ (path_at (codes "store") rows) (λ store. turns))))))
+
+pin_within : (base : Defaults) (rows : Rows) → HasTurns base.settings → IfSome (pin_of base rows) IsWithin
+unfolding pin_of
+pin_within base rows few = mapped_if IsWithin IsReplica _ (replica_of base rows) (replica_within base rows few) (λ replica turns. turns)
+
+rget_within : (base : Defaults) (rows : Rows) → HasTurns base.settings → IfSome (rget_of base rows) IsWithin
+unfolding rget_of
+rget_within base rows few =
+    then_if IsWithin InFile _ (range_at rows) (range_within rows) (λ range ends.
+    mapped_if IsWithin IsReplica _ (replica_of base rows) (replica_within base rows few) (λ replica turns.
+    record { turns = turns; range = ends }))
+
 store_job_within : (base : Defaults) (name : Text) (rows : Rows) → HasTurns base.settings → IfSome (store_job base false name rows) IsWithin
 unfolding store_job
 store_job_within base name rows few =
     either IsWithin (named (codes "check") name) _ _ (check_within base.settings rows)
     (either IsWithin (named (codes "scrub") name) _ _ (scrub_within base rows)
     (either IsWithin (named (codes "sweep") name) _ _ (sweep_within base rows)
+    (either IsWithin (named (codes "pin") name) _ _ (pin_within base rows few)
+    (either IsWithin (named (codes "rget") name) _ _ (rget_within base rows few)
     (mapped_if IsWithin IsClientWithin (λ client. job.Client client) (client_of base false name rows) (client_within base name rows few)
-    (λ client within. within))))
+    (λ client within. within))))))
 
 node_job_within : (base : Defaults) (name : Text) (rows : Rows) → HasTurns base.settings → IfSome (node_job base false name rows) IsWithin
 unfolding node_job
@@ -426,14 +453,25 @@ sweep_line base rows =
     then_some IsLineJob _ (key_at rows) (λ key.
     then_some IsLineJob _ (path_at (codes "mrc-store") rows) (λ metadata. mapped IsLineJob _ (path_at (codes "store") rows) (λ store. tt {0}))))
 
+pin_line : (base : Defaults) (rows : Rows) → IfSome (pin_of base rows) IsLineJob
+unfolding pin_of
+pin_line base rows = mapped IsLineJob _ (replica_of base rows) (λ replica. tt {0})
+
+rget_line : (base : Defaults) (rows : Rows) → IfSome (rget_of base rows) IsLineJob
+unfolding rget_of
+rget_line base rows =
+    then_some IsLineJob _ (range_at rows) (λ range. mapped IsLineJob _ (replica_of base rows) (λ replica. tt {0}))
+
 store_line : (base : Defaults) (name : Text) (rows : Rows) → IfSome (store_job base true name rows) IsLineJob
 unfolding store_job
 store_line base name rows =
     either IsLineJob (named (codes "check") name) _ _ (check_line base.settings rows)
     (either IsLineJob (named (codes "scrub") name) _ _ (scrub_line base rows)
     (either IsLineJob (named (codes "sweep") name) _ _ (sweep_line base rows)
+    (either IsLineJob (named (codes "pin") name) _ _ (pin_line base rows)
+    (either IsLineJob (named (codes "rget") name) _ _ (rget_line base rows)
     (mapped_if IsLineJob IsLineWithin (λ client. job.Client client) (client_of base true name rows) (line_within base name rows)
-    (λ client within. within))))
+    (λ client within. within))))))
 
 node_line : (base : Defaults) (name : Text) (rows : Rows) → IfSome (node_job base true name rows) IsLineJob
 unfolding node_job

@@ -39,6 +39,11 @@ pub record IsClusterWithin (cluster : ClusterJob) : Type 0 where
   pub secret : IsSecret cluster.key
   pub turns : HasTurns cluster.settings
 
+-- a read through a replica: its range ends within what a file may have
+pub record IsReadWithin (settings : Settings) (asked : Option (ℕ × ℕ)) : Type 0 where
+  pub turns : HasTurns settings
+  pub range : end_in asked ≤ 281474976710656
+
 -- a schedule that is generated has so many turns at most
 abbrev pub IsSize : ℕ → Type 0
 IsSize size = size ≤ 4096
@@ -49,6 +54,8 @@ IsWithin (job.Osd id directory serving) = IsSecret serving.key
 IsWithin (job.Mrc directory serving) = IsSecret serving.key
 IsWithin (job.Dir serving) = IsSecret serving.key
 IsWithin (job.Sweep sweep) = IsSecret sweep.key
+IsWithin (job.Pin replica full) = HasTurns replica.base.settings
+IsWithin (job.Rget replica range hex) = IsReadWithin replica.base.settings range
 IsWithin (job.Cluster cluster) = IsClusterWithin cluster
 IsWithin (job.Client client) = IsClientWithin client
 IsWithin _ = Unit {0}

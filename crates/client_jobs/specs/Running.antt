@@ -25,6 +25,7 @@ use Rattle.client_loop.specs.declared.errors.DriveErr.TheVariants as error
 use Rattle.client_loop.specs.Listening.{DriverView}
 use Rattle.client_loop.specs.Carrying.{Around, HasCarried, CannotCarry, Task as Carried}
 use Rattle.command_words.specs.declared.job.ClientJob.{ClientJob}
+use Rattle.command_words.specs.declared.job.Settings.{Settings}
 use Rattle.command_words.specs.declared.job.Order.{Order}
 use Rattle.command_words.specs.declared.job.Order.TheVariants as order
 use Rattle.client_plans.specs.declared.stage.Goes.{Goes}
@@ -93,14 +94,14 @@ address_in None = []
 address_in (Some address) = address
 
 -- It knows where the DIR is, and nobody else.
-abbrev pub driver_of : ClientJob → ℕ → DriverView
-driver_of job reading = record {
-  sender = record { node = job.who.id; boot = record { 0 = first_number reading }; count = 0 };
-  times = job.settings.times;
+abbrev pub driver_as : NodeId → Settings → List ℕ → ℕ → DriverView
+driver_as node settings directory reading = record {
+  sender = record { node = node; boot = record { 0 = first_number reading }; count = 0 };
+  times = settings.times;
   listener = record {
-    node = job.who.id;
-    ears = record { halves = []; book = with_address [] (record { 0 = 900 }) (address_in job.dir) };
-    turns = job.settings.turns;
+    node = node;
+    ears = record { halves = []; book = with_address [] (record { 0 = 900 }) directory };
+    turns = settings.turns;
     spent = 0;
   };
 }
@@ -275,11 +276,14 @@ GoesOn _ = ⊥
 -- ---- the whole
 
 -- its clock has been read once
-pub record Begins (job : ClientJob) (to_read unread : Option (List ℕ)) (session : CommandSession) : Type 0 where
+pub record BeginsAs (node : NodeId) (settings : Settings) (directory : List ℕ) (to_read unread : Option (List ℕ)) (session : CommandSession) : Type 0 where
   pub reading : ℕ
   pub reads : Reads to_read unread (reading ∷ [])
-  pub knows : session.driver ≡ driver_of job reading
-  pub starts : session.client ≡ client_of job (first_number reading)
+  pub knows : session.driver ≡ driver_as node settings directory reading
+  pub starts : session.client ≡ new_client node settings.times (first_number reading)
+
+abbrev pub Begins : ClientJob → Option (List ℕ) → Option (List ℕ) → CommandSession → Type 0
+Begins job to_read unread session = BeginsAs job.who.id job.settings (address_in job.dir) to_read unread session
 
 -- where its operations begin
 abbrev pub starts_in : ClientJob → CommandSession → CommandState

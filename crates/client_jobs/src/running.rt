@@ -7,7 +7,7 @@ ghost use Rattle.client_jobs.specs.Content.{pattern_from, HasReadCause};
 ghost use Rattle.client_jobs.specs.Running as spec;
 ghost use Rattle.client_loop.specs.Carrying.{Around};
 ghost use Rattle.client_jobs.specs.Lines.{bytes_put};
-ghost use Rattle.client_jobs.specs.Running.{Command, CommandState, Runs, IsPlanned, HasWhy, ReadsEarly, first_number, driver_of, client_of, AreAll, command_of, call_in, CannotCall, HasCalled, HasStepped, HasAdvanced, Ends, HasAdvanceCause, has_last_line, Closes, CanAsk, GoesOn, Begins, IsClientJob, IsEarly, CannotTake, around_of, counts_of, outside_of, WorksOver};
+ghost use Rattle.client_jobs.specs.Running.{Command, CommandState, Runs, IsPlanned, HasWhy, ReadsEarly, first_number, driver_as, new_client, AreAll, command_of, call_in, CannotCall, HasCalled, HasStepped, HasAdvanced, Ends, HasAdvanceCause, has_last_line, Closes, CanAsk, GoesOn, Begins, BeginsAs, IsClientJob, IsEarly, CannotTake, around_of, counts_of, outside_of, WorksOver};
 
 use crate::asking::operation_of;
 use crate::content::{PatternPieces, ReadErr, SourcePieces};
@@ -18,7 +18,7 @@ use crate::session::CommandSession;
 use client_core::Client;
 use client_loop::{DriveErr, Driver};
 use client_plans::{Goes, Stage};
-use command_words::{ClientJob, Order};
+use command_words::{ClientJob, Order, Settings};
 use node_links::{Clock, Link, Sink, Source};
 use schedule_lines::{finish, put_all};
 use std::alloc::Global;
@@ -114,18 +114,22 @@ fn pattern_size(order: &Order) -> u64
     }
 }
 
-/// A session of this command alone, which begins at this reading.
-fn session_of(alloc: Global, job: &ClientJob, reading: u64) -> Option<CommandSession>
-    requires dir { IsSome job.now.dir }
-    requires turns { job.now.settings.turns < 2 ^ 62 }
-    ensures { IfSome result (λ session. (session.driver ≡ driver_of job.now reading)
-        × (session.client ≡ client_of job.now (first_number reading)) × CanAsk session.client) }
+/// A session of one command alone, which begins at this reading.
+fn session_of(
+    alloc: Global,
+    node: NodeId,
+    settings: &Settings,
+    dir: &Address,
+    reading: u64,
+) -> Option<CommandSession>
+    requires { settings.now.turns < 2 ^ 62 }
+    ensures { IfSome result (λ session. (session.driver ≡ driver_as node settings.now dir.now reading)
+        × (session.client ≡ new_client node settings.now.times (first_number reading))
+        × CanAsk session.client) }
 {
-    let Some(dir) = &job.dir else { unreachable!() };
     let first = first_number(reading);
-    let (node, times) = (job.who.id, job.settings.times);
-    let boot = Boot(first);
-    match Driver::new(alloc, node, boot, times, dir, job.settings.turns) {
+    let times = settings.times;
+    match Driver::new(alloc, node, Boot(first), times, dir, settings.turns) {
         Ok(driver) => Some(CommandSession {
             driver,
             client: Client::new(alloc, node, times, first),
@@ -136,21 +140,21 @@ fn session_of(alloc: Global, job: &ClientJob, reading: u64) -> Option<CommandSes
 
 /// The address that a client takes, with a port that the system chooses: one on this machine alone if the directory service has a
 /// loopback address, else one that other machines can reach.
-fn own_address(dir: &Option<Address>) -> &'static str {
-    match dir {
-        Some(dir) if dir.as_str().starts_with("127.") => "127.0.0.1:0",
-        Some(dir) if dir.as_str().starts_with("[::1]") => "[::1]:0",
-        Some(dir) if dir.as_str().starts_with("[") => "[::]:0",
-        _ => "0.0.0.0:0",
+fn own_address(dir: &Address) -> &'static str {
+    let dir = dir.as_str();
+    if dir.starts_with("127.") {
+        "127.0.0.1:0"
+    } else if dir.starts_with("[::1]") {
+        "[::1]:0"
+    } else if dir.starts_with("[") {
+        "[::]:0"
+    } else {
+        "0.0.0.0:0"
     }
 }
 
 /// Takes an address for the link, and reads the clock.
-fn opened<L: Link, C: Clock>(
-    dir: &Option<Address>,
-    link: &mut L,
-    clock: &mut C,
-) -> Result<u64, Status>
+fn opened<L: Link, C: Clock>(dir: &Address, link: &mut L, clock: &mut C) -> Result<u64, Status>
     ensures link { (L.given link.new ≡ L.given link.old) × (L.sent link.new ≡ L.sent link.old)
         × (L.loss_count link.new ≡ L.loss_count link.old) }
     ensures reads { IfOk result (λ reading. Reads (C.readings clock.old) (C.readings clock.new)
@@ -177,7 +181,42 @@ fn opened<L: Link, C: Clock>(
     Ok(reading)
 }
 
-/// Begins a command: the link takes an address, the clock is read once, and a session is made for the command alone.
+/// Begins a command by the client with this number, who knows the directory service by this address: the link takes an address, the clock
+/// is read once, and a session is made for the command alone, with as many turns as the settings have, below 2^62. An error says that
+/// the link couldn't be bound, that the clock couldn't be read, or that memory ran out: nothing was sent.
+pub fn open_session<L: Link, C: Clock>(
+    alloc: Global,
+    node: NodeId,
+    settings: &Settings,
+    dir: &Address,
+    link: &mut L,
+    clock: &mut C,
+) -> Result<CommandSession, Status>
+    requires { settings.now.turns < 2 ^ 62 }
+    ensures link { (L.given link.new ≡ L.given link.old) × (L.sent link.new ≡ L.sent link.old)
+        × (L.loss_count link.new ≡ L.loss_count link.old) }
+    ensures begins { IfOk result (λ session. BeginsAs node settings.now dir.now
+        (C.readings clock.old) (C.readings clock.new) session) }
+    ensures asks { IfOk result (λ session. CanAsk session.client) }
+    ensures sound { IfOk result (λ session. (L.fault_count link.new ≡ L.fault_count link.old)
+        × (C.fault_count clock.new ≡ C.fault_count clock.old)) }
+    ensures early { IfErr result IsEarly }
+    ensures early_reads { IfErr result (ReadsEarly (C.readings clock.old) (C.readings clock.new)) }
+    ensures cause { (source : ℕ) → IfErr result (HasWhy
+        (counts_of (L.fault_count link.old) (C.fault_count clock.old) source)
+        (counts_of (L.fault_count link.new) (C.fault_count clock.new) source)) }
+{
+    let reading = match opened(dir, link, clock) {
+        Ok(reading) => reading,
+        Err(status) => return Err(status),
+    };
+    match session_of(alloc, node, settings, dir, reading) {
+        Some(session) => Ok(session),
+        None => Err(Status::OutOfMemory),
+    }
+}
+
+/// Begins a client command.
 fn begin<L: Link, C: Clock>(
     alloc: Global,
     job: &ClientJob,
@@ -199,14 +238,8 @@ fn begin<L: Link, C: Clock>(
         (counts_of (L.fault_count link.old) (C.fault_count clock.old) source)
         (counts_of (L.fault_count link.new) (C.fault_count clock.new) source)) }
 {
-    let reading = match opened(&job.dir, link, clock) {
-        Ok(reading) => reading,
-        Err(status) => return Err(status),
-    };
-    match session_of(alloc, job, reading) {
-        Some(session) => Ok(session),
-        None => Err(Status::OutOfMemory),
-    }
+    let Some(dir) = &job.dir else { unreachable!() };
+    open_session(alloc, job.who.id, &job.settings, dir, link, clock)
 }
 
 /// Carries a call out over the link, by the clock, with at most `tries` tries. At `Ok` the client has its result.

@@ -27,15 +27,20 @@ fn value_fault(alloc: Global, name: &str, found: &ArgMatches<'_>) -> Result<Stri
     Ok(String::new(alloc))
 }
 
+/// Whether this command reads a range of a file.
+fn reads_range(name: &str) -> bool {
+    name == "get" || name == "rget"
+}
+
 /// What doesn't go together in a command whose values are in their ranges.
 fn rule_broken(name: &str, found: &ArgMatches<'_>) -> &'static str {
     if name == "put" && found.get_str("replicas").is_some() && found.get_str("striped").is_some() {
         "error: a file is replicated or striped: give '--replicas' or '--striped'\n"
     } else if name == "put" && found.get_str("stripe").is_some() {
         "error: '--stripe' is a multiple of 1024\n"
-    } else if name == "get" && found.get_str("at").is_some() != found.get_str("len").is_some() {
+    } else if reads_range(name) && found.get_str("at").is_some() != found.get_str("len").is_some() {
         "error: '--at' and '--len' are given together\n"
-    } else if name == "get" && found.get_str("at").is_some() {
+    } else if reads_range(name) && found.get_str("at").is_some() {
         "error: '--at' and '--len' together are at most 281474976710656\n"
     } else if name == "register" || name == "unregister" {
         "error: the directory service (900) isn't in its own registry: commands and nodes are given its address with '--dir'\n"

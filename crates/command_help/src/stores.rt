@@ -7,14 +7,14 @@ use command_words::program;
 use std::alloc::{AllocError, Global};
 use xt_base::{OutOfMemory, Words};
 
-/// The file beside the store of a node, and what it says: the node's role and number, as a line.
+/// The file beside a store, and what it says, as a line: the role and number of the node whose store it is, or that it is a replica's.
 #[derive(Drop)]
 pub struct StoreOwner {
     pub path: String,
     pub line: String,
 }
 
-/// The role and number of the node that this command starts, as a line; none for a command that starts no node.
+/// The line of the owner of a store that this command uses; none for a command that starts no node and uses no replica.
 fn line_of(
     alloc: Global,
     name: &str,
@@ -29,6 +29,8 @@ fn line_of(
             Some(id) => Ok(Some(format!(in alloc; "osd {id}\n")?)),
             None => Ok(None),
         }
+    } else if name == "pin" || name == "rget" {
+        Ok(Some(String::from_str(alloc, "pin\n")?))
     } else {
         Ok(None)
     }
@@ -74,7 +76,7 @@ fn opened_in(alloc: Global, found: &ArgMatches<'_>) -> Result<Vec<String>, OutOf
 /// What these words do to a store.
 #[derive(Drop)]
 pub enum StoreUse {
-    /// They start a node, whose store has this file beside it.
+    /// They start a node, or use a replica, whose store has this file beside it.
     Owned(StoreOwner),
     /// They open the stores of nodes that have stopped, at these paths.
     Opened(Vec<String>),

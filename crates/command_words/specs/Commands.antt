@@ -126,6 +126,25 @@ sweep_app =
     (needed_or_free true (codes "store")
     (plain_app (codes "sweep"))))))
 
+-- a read-only replica has the options of a client, and always names where the DIR is
+unfoldable pub pin_app : App
+pin_app =
+    client_options false
+    (with_flag (codes "full")
+    (needed_or_free true (codes "store")
+    (placed 1 (codes "path")
+    (plain_app (codes "pin")))))
+
+unfoldable pub rget_app : App
+rget_app =
+    client_options false
+    (with_flag (codes "hex")
+    (needed_or_free false (codes "len")
+    (needed_or_free false (codes "at")
+    (needed_or_free true (codes "store")
+    (placed 1 (codes "path")
+    (plain_app (codes "rget")))))))
+
 unfoldable pub cluster_app : App
 cluster_app =
     own_options
@@ -214,7 +233,7 @@ unfoldable pub with_nodes : App → App
 with_nodes all = joined (joined (joined (joined all (osd_app)) (mrc_app)) (dir_app)) (cluster_app)
 
 unfoldable pub with_stores : App → App
-with_stores all = joined (joined (joined all (check_app)) (scrub_app)) (sweep_app)
+with_stores all = joined (joined (joined (joined (joined all (check_app)) (scrub_app)) (sweep_app)) (pin_app)) (rget_app)
 
 unfoldable pub with_registry_commands : Bool → App → App
 with_registry_commands inside all =

@@ -11,6 +11,7 @@ use Rattle.command_words.specs.declared.job.Settings.{Settings}
 use Rattle.command_words.specs.declared.job.Serving.{Serving}
 use Rattle.command_words.specs.declared.job.Given.{Given}
 use Rattle.command_words.specs.declared.job.SweepJob.{SweepJob}
+use Rattle.command_words.specs.declared.job.ReplicaJob.{ReplicaJob}
 use Rattle.command_words.specs.declared.job.Defaults.{Defaults}
 use Rattle.command_words.specs.declared.job.ClientJob.{ClientJob}
 use Rattle.command_words.specs.declared.job.Who.{Who}
@@ -295,6 +296,26 @@ sweep_of base rows =
     (key_at rows))
     (stopped_settings base rows)
 
+-- a file and the replica of it, with the options of a client: each is in its range
+unfoldable pub replica_of : Defaults → Rows → Option ReplicaJob
+replica_of base rows =
+    option_and_then (λ settings. option_and_then (λ who. option_and_then (λ directory.
+    option_and_then (λ key. option_and_then (λ path. option_map (λ store.
+    record { base = record { settings = settings; who = who }; dir = directory; path = path; store = store })
+    (path_at (codes "store") rows))
+    (path_at (codes "path") rows))
+    (key_if_at rows))
+    (address_at (codes "dir") rows))
+    (who_of base.who rows))
+    (settings_of base.settings rows)
+
+unfoldable pub pin_of : Defaults → Rows → Option Job
+pin_of base rows = option_map (λ replica. job.Pin replica (flag_at (codes "full") rows)) (replica_of base rows)
+
+unfoldable pub rget_of : Defaults → Rows → Option Job
+rget_of base rows = option_and_then (λ range. option_map (λ replica. job.Rget replica range (flag_at (codes "hex") rows))
+    (replica_of base rows)) (range_at rows)
+
 -- the options that were given, for the children
 unfoldable pub given_of : Rows → Given
 given_of rows = record {
@@ -324,12 +345,14 @@ cluster_of base rows =
     (number_at 1 65000 (codes "port") rows))
     (number_at 1 50 (codes "osds") rows)
 
--- the work on the store of a stopped node, or what a client does
+-- the work on the store of a stopped node or of a replica, or what a client does
 unfoldable pub store_job : Defaults → Bool → Text → Rows → Option Job
 store_job base inside name rows =
     if named (codes "check") name then check_of base.settings rows
     else if named (codes "scrub") name then scrub_of base rows
     else if named (codes "sweep") name then sweep_of base rows
+    else if named (codes "pin") name then pin_of base rows
+    else if named (codes "rget") name then rget_of base rows
     else option_map (λ client. job.Client client) (client_of base inside name rows)
 
 unfoldable pub node_job : Defaults → Bool → Text → Rows → Option Job

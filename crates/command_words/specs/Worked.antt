@@ -58,6 +58,10 @@ in_range =
     codes "scrub --store s --limit 1073741824 --dir 127.0.0.1:7400 --key 00ff --tries 1 --turns 1" ∷
     codes "sweep --store s1 --mrc-store s901 --key 00ff" ∷
     codes "sweep --mrc-store s901 --store s1 --key 00ff --lease 3 --drift 1 --dir 127.0.0.1:7400 --id 0" ∷
+    codes "pin /a --store s --dir 127.0.0.1:7400" ∷
+    codes "pin --full --dir 127.0.0.1:7400 --store s --limit 1073741824 --lease 3 --drift 1 --turns 1 --key 00ff --id 0 --user 0 --group 0 --tries 1 /a" ∷
+    codes "rget /a --store s --dir 127.0.0.1:7400 --key 00" ∷
+    codes "rget /a --at 0 --len 281474976710656 --hex --store s --dir 127.0.0.1:7400" ∷
     codes "register 4294967295 2 127.0.0.1:7401 --dir 127.0.0.1:7400" ∷
     codes "unregister 4294967295 --dir 127.0.0.1:7400" ∷
     codes "nodes --dir 127.0.0.1:7400 --tries 1" ∷
@@ -155,6 +159,22 @@ out_of_range =
     codes "sweep --mrc-store s901 --key 00ff" ∷
     codes "sweep --store s1 --mrc-store s901 --key 00f" ∷
     codes "sweep --store s1 --mrc-store s901 --key 00ff --drift 0" ∷
+    codes "pin --store s --dir 127.0.0.1:7400" ∷
+    codes "pin /a --dir 127.0.0.1:7400" ∷
+    codes "pin /a --store s" ∷
+    codes "pin /a /b --store s --dir 127.0.0.1:7400" ∷
+    codes "pin /a --store s --dir 127.0.0.1:7400 --hex" ∷
+    codes "pin /a --store s --dir 127.0.0.1:7400 --at 0 --len 1" ∷
+    codes "pin /a --store s --dir 127.0.0.1:7400 --limit 0" ∷
+    codes "pin /a --store s --dir 127.0.0.1:7400 --key 0" ∷
+    codes "rget --store s --dir 127.0.0.1:7400" ∷
+    codes "rget /a --dir 127.0.0.1:7400" ∷
+    codes "rget /a --store s" ∷
+    codes "rget /a --store s --dir 127.0.0.1:7400 --full" ∷
+    codes "rget /a --store s --dir 127.0.0.1:7400 --at 0" ∷
+    codes "rget /a --store s --dir 127.0.0.1:7400 --len 0" ∷
+    codes "rget /a --store s --dir 127.0.0.1:7400 --at 1 --len 281474976710656" ∷
+    codes "rget /a --store s --dir 127.0.0.1:7400 --tries 0" ∷
     codes "register 4294967296 1 a --dir 127.0.0.1:7400" ∷
     codes "register 0 1 a --dir 127.0.0.1:7400" ∷
     codes "register 900 1 a --dir 127.0.0.1:7400" ∷
@@ -204,6 +224,9 @@ lines_out_of_range =
     codes "check --store s" ∷
     codes "scrub --store s" ∷
     codes "sweep --store s1 --mrc-store s901 --key 00ff" ∷
+    codes "pin /a --store s" ∷
+    codes "pin /a --store s --dir 127.0.0.1:7400" ∷
+    codes "rget /a --store s" ∷
     codes "replicas /a --dir 127.0.0.1:7400" ∷
     codes "unregister 900" ∷
     codes "nodes --dir 127.0.0.1:7400" ∷
@@ -239,6 +262,22 @@ IsSwept = asked false (codes "sweep --store s7 --mrc-store s901 --key 0a --lease
   metadata = codes "s901";
   key = 10 ∷ [];
 }))
+
+abbrev pub IsPin : Type 0
+IsPin = asked false (codes "pin /a --full --store s7 --dir 127.0.0.1:7400 --limit 4096 --user 2") ≡ Some (job.Pin (record {
+  base = record { settings = record usual_settings { limit = 4096 }; who = record usual_who { user = 2 } };
+  dir = codes "127.0.0.1:7400";
+  path = codes "/a";
+  store = codes "s7";
+}) true)
+
+abbrev pub IsRget : Type 0
+IsRget = asked false (codes "rget --dir 127.0.0.1:7400 --store s7 --len 3 --at 2 --tries 1 /b") ≡ Some (job.Rget (record {
+  base = record { settings = usual_settings; who = record usual_who { tries = 1 } };
+  dir = codes "127.0.0.1:7400";
+  path = codes "/b";
+  store = codes "s7";
+}) (Some (2, 3)) false)
 
 abbrev pub IsPut : Type 0
 IsPut = asked true (codes "put /a --pattern 10 --striped 3 --key 00ff") ≡ Some (job.Client (record {

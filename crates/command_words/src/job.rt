@@ -159,6 +159,19 @@ pub struct SweepJob {
     pub key: Octets,
 }
 
+/// A replicated file, and the read-only replica of it on this machine.
+#[derive(Drop)]
+pub struct ReplicaJob {
+    /// The options of nodes and clients.
+    pub base: Defaults,
+    /// Where the DIR is reached.
+    pub dir: Address,
+    /// Where the file is in the tree of names, at most 65,535 bytes.
+    pub path: Name,
+    /// The path of the replica's store, at most 65,535 bytes.
+    pub store: Name,
+}
+
 /// What the words ask for.
 #[derive(Drop)]
 pub enum Job {
@@ -192,6 +205,17 @@ pub enum Job {
         limit: u64,
     },
     Sweep(SweepJob),
+    /// Makes a read-only replica of a file as it is now, with `full` one that holds all its objects.
+    Pin {
+        job: ReplicaJob,
+        full: bool,
+    },
+    /// Reads through a read-only replica. The range is its first byte and its length, and ends at 2^48 at most.
+    Rget {
+        job: ReplicaJob,
+        range: Option<(u64, u64)>,
+        hex: bool,
+    },
     Cluster(ClusterJob),
     Client(ClientJob),
 }

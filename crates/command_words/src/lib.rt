@@ -14,7 +14,8 @@ mod worked;
 
 pub use commands::program;
 pub use job::{
-    ClientJob, ClusterJob, Defaults, Given, Job, Layout, Order, Serving, Settings, SweepJob, Who,
+    ClientJob, ClusterJob, Defaults, Given, Job, Layout, Order, ReplicaJob, Serving, Settings,
+    SweepJob, Who,
 };
 pub use ranges::{is_key, mode_of, number_in};
 pub use words::read_words;

@@ -2,11 +2,12 @@
 
 ghost use Rattle.std.specs.Prelude.{◌≡◌, ◌≤◌, IfSome, IfOk, codes, option_map};
 ghost use Rattle.clap.specs.Words.{first_of, subcommand_rows_of};
-ghost use Rattle.command_words.specs.Jobs.{rows_in, number_at, number_or_at, number_if_at, node_at, node_or_at, path_at, address_at, address_if_at, mode_at, settings_of, who_of, registered_at, register_of, unregister_of, mv_of, chmod_of, mkdir_of, rmdir_of, rm_of, ls_of, stat_of, replicas_of, flag_at, key_at, key_if_at, layout_at, stripe_at, pattern_at, put_of, range_at, get_of, truncate_of, file_order, tree_order, order_of, directory_at, client_of, serving_of, make_of, osd_of, mrc_of, dir_of, check_of, stopped_settings, scrub_of, sweep_of, given_of, cluster_of, store_job, node_job, job_in, chosen_in};
+ghost use Rattle.command_words.specs.Jobs.{rows_in, number_at, number_or_at, number_if_at, node_at, node_or_at, path_at, address_at, address_if_at, mode_at, settings_of, who_of, registered_at, register_of, unregister_of, mv_of, chmod_of, mkdir_of, rmdir_of, rm_of, ls_of, stat_of, replicas_of, flag_at, key_at, key_if_at, layout_at, stripe_at, pattern_at, put_of, range_at, get_of, truncate_of, file_order, tree_order, order_of, directory_at, client_of, serving_of, make_of, osd_of, mrc_of, dir_of, check_of, stopped_settings, scrub_of, sweep_of, replica_of, pin_of, rget_of, given_of, cluster_of, store_job, node_job, job_in, chosen_in};
 ghost use Rattle.std.specs.Str.{bytes_eq};
 
 use crate::job::{
-    ClientJob, ClusterJob, Defaults, Given, Job, Layout, Order, Serving, Settings, SweepJob, Who,
+    ClientJob, ClusterJob, Defaults, Given, Job, Layout, Order, ReplicaJob, Serving, Settings,
+    SweepJob, Who,
 };
 use crate::ranges::{address_of, key_of, mode_of, name_of, number_in, times_of};
 use clap::ArgMatches;
@@ -812,6 +813,76 @@ fn sweep_of(
     }
 }
 
+/// A file and the replica of it, with the options of a client, where each is in its range.
+#[tactic(auto, unfolding(crate::specs::Jobs::replica_of))]
+fn replica_of(
+    alloc: Global,
+    base: &Defaults,
+    found: &ArgMatches<'_>,
+) -> Result<Option<ReplicaJob>, OutOfMemory>
+    ensures { IfOk result (λ made. made ≡ replica_of base.now (rows_in found.now)) }
+{
+    let Some(settings) = settings_of(&base.settings, found) else {
+        return Ok(None);
+    };
+    let Some(who) = who_of(&base.who, found) else {
+        return Ok(None);
+    };
+    let Some(dir) = address_at(found, "dir") else {
+        return Ok(None);
+    };
+    let Some(_key) = key_if_at(alloc, found)? else {
+        return Ok(None);
+    };
+    let Some(path) = path_at(alloc, found, "path")? else {
+        return Ok(None);
+    };
+    match path_at(alloc, found, "store")? {
+        Some(store) => Ok(Some(ReplicaJob {
+            base: Defaults { settings, who },
+            dir,
+            path,
+            store,
+        })),
+        None => Ok(None),
+    }
+}
+
+/// `pin`
+#[tactic(auto, unfolding(crate::specs::Jobs::pin_of))]
+fn pin_of(
+    alloc: Global,
+    base: &Defaults,
+    found: &ArgMatches<'_>,
+) -> Result<Option<Job>, OutOfMemory>
+    ensures { IfOk result (λ made. made ≡ pin_of base.now (rows_in found.now)) }
+{
+    let full = flag_at(found, "full");
+    match replica_of(alloc, base, found)? {
+        Some(job) => Ok(Some(Job::Pin { job, full })),
+        None => Ok(None),
+    }
+}
+
+/// `rget`
+#[tactic(auto, unfolding(crate::specs::Jobs::rget_of))]
+fn rget_of(
+    alloc: Global,
+    base: &Defaults,
+    found: &ArgMatches<'_>,
+) -> Result<Option<Job>, OutOfMemory>
+    ensures { IfOk result (λ made. made ≡ rget_of base.now (rows_in found.now)) }
+{
+    let Some(range) = range_at(found) else {
+        return Ok(None);
+    };
+    let hex = flag_at(found, "hex");
+    match replica_of(alloc, base, found)? {
+        Some(job) => Ok(Some(Job::Rget { job, range, hex })),
+        None => Ok(None),
+    }
+}
+
 /// The options that were given, for the children.
 #[tactic(auto, unfolding(crate::specs::Jobs::given_of))]
 fn given_of(found: &ArgMatches<'_>) -> Given
@@ -864,7 +935,7 @@ fn cluster_of(
     }
 }
 
-/// The work on the store of a stopped node, or what a client does.
+/// The work on the store of a stopped node or of a replica, or what a client does.
 #[tactic(auto, unfolding(crate::specs::Jobs::store_job))]
 fn store_job(
     alloc: Global,
@@ -881,6 +952,10 @@ fn store_job(
         scrub_of(alloc, base, found)
     } else if is_word(name, "sweep") {
         sweep_of(alloc, base, found)
+    } else if is_word(name, "pin") {
+        pin_of(alloc, base, found)
+    } else if is_word(name, "rget") {
+        rget_of(alloc, base, found)
     } else {
         match client_of(alloc, base, inside, name, found)? {
             Some(client) => Ok(Some(Job::Client(client))),

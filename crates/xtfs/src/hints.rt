@@ -84,7 +84,7 @@ fn retried(answers: &[Answered]) -> &'static str {
     }
 }
 
-/// What the status of a node or of a client command means beyond its last line, and what helps; none where that line says it all.
+/// What the status of a node or of a client command, or of a replica's, means beyond its last line, and what helps; none where that line says it all.
 pub fn hint(status: &Status) -> Option<&'static str> {
     match status {
         Status::Retry { answers } => Some(retried(answers.as_slice())),
@@ -108,6 +108,19 @@ pub fn hint(status: &Status) -> Option<&'static str> {
         ),
         Status::Damaged { .. } => Some(
             "the store is damaged: treat it as lost ('Replace a disk' in docs/operations.md)",
+        ),
+        Status::Moved { count: 0 } => {
+            Some("the replica is of another file: is the path of --store right?")
+        }
+        Status::Moved { .. } => Some(
+            "the file was written after it was pinned, and what is asked for isn't in the replica: pin it again, into a new store",
+        ),
+        Status::NotReplicated => {
+            Some("the file is striped: only replicated files have read-only replicas")
+        }
+        Status::PinStore { pins: 0 } => Some("the store has no replica: pin makes one"),
+        Status::PinStore { .. } => Some(
+            "a replica has a store of its own: pin makes it in a new one, and rget reads from one that pin has made",
         ),
         _ => None,
     }

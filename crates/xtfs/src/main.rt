@@ -2,7 +2,7 @@
 //! that a cluster is, as the words of the command line ask.
 //!
 //! `main` makes the adapters over the standard streams, a socket, a file, the clock of this machine and its processes, and ends with the
-//! status of `xtfs_run::run`, which does all that the program does. A node isn't started on a store that is another node's by the file
+//! status of `xtfs_run::run`, which does all that the program does. Neither a node nor a replica uses a store that is another's by the file
 //! beside it, a store that isn't there isn't made in order to be worked on, and words with an address that isn't one are refused.
 //!
 //! Standard error is for people: which word is wrong and why, and how its command is called; which call of the system failed; when a node is

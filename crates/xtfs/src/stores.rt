@@ -6,20 +6,20 @@ use std::fs::{File, OpenOptions, TryLockError};
 use std::io::{self, ErrorKind};
 use xt_base::Words;
 
-/// The status of a node that is started on another node's store: that of one on a file that is no store.
+/// The status of words that use another's store: that of a node on a file that is no store.
 const ANOTHERS: u8 = 13;
 
 /// The status of work on a store that can't be opened: that of a disk that has failed.
 const UNOPENED: u8 = 5;
 
-/// Whether the file beside a store says that it is another node's. A store without one gets one.
+/// Whether the file beside a store says that it is another's. A store without one gets one.
 fn is_anothers(rt: &HostRuntime, owner: &StoreOwner) -> io::Result<bool> {
     match fs::read_to_string(rt, owner.path.as_str()) {
         Ok(line) => {
             let other = line.as_str() != owner.line.as_str();
             if other {
                 eprint!(rt;
-                    "xtfs: this store is another node's: {} says {}, and these words are those of {}",
+                    "xtfs: this store is another's: {} says {}, and these words are those of {}",
                     owner.path,
                     line.trim_end(),
                     owner.line,
@@ -58,8 +58,8 @@ fn are_unopened(rt: &HostRuntime, paths: &[String]) -> io::Result<bool> {
     Ok(false)
 }
 
-/// The status with which these words end before anything is done: those of a node on another node's store, or of work on a store that
-/// can't be opened.
+/// The status with which these words end before anything is done: those of a node or of a replica on another's store, or of work on a store
+/// that can't be opened.
 pub fn ended_early(rt: &HostRuntime, words: &Words) -> io::Result<Option<u8>> {
     let (ends, status) = match store_use(rt.alloc(), words)? {
         StoreUse::Owned(owner) => (is_anothers(rt, &owner)?, ANOTHERS),

@@ -98,6 +98,7 @@ pub fn is_unreachable(rt: &HostRuntime, job: &Job) -> bool {
     match job {
         Job::Osd { dir, .. } | Job::Mrc { dir, .. } => is_refused(rt, "dir", dir),
         Job::Client(client) => is_refused_client(rt, client),
+        Job::Pin { job, .. } | Job::Rget { job, .. } => is_refused(rt, "dir", &job.dir),
         _ => false,
     }
 }
@@ -135,6 +136,9 @@ pub fn shows_progress(rt: &HostRuntime, job: &Job) -> bool {
 fn tell_disk(rt: &HostRuntime, job: &Job) -> io::Result<()> {
     if let Job::Check { store, .. } | Job::Scrub { store, .. } = job {
         return tell_store(rt, store.as_str());
+    }
+    if let Job::Pin { job, .. } | Job::Rget { job, .. } = job {
+        return tell_store(rt, job.store.as_str());
     }
     match node_of(job) {
         Some(node) => tell_store(rt, node.serving.store.as_str()),

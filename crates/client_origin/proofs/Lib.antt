@@ -1,0 +1,3 @@
+pub mod OnFile
+pub mod Granting
+pub mod Fetched

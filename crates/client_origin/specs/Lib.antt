@@ -1,0 +1,3 @@
+pub mod OnFile
+pub mod Fetching
+pub mod Origins

@@ -1,0 +1,5 @@
+pub mod Viewed
+pub mod Calls
+pub mod Listed
+pub mod Jobs
+pub mod Ways
