@@ -1,5 +1,6 @@
 ghost use Rattle.std.specs.Prelude.{◌≡◌, ◌<◌, ◌^◌, false, IsTrue};
 ghost use Rattle.xt_protocol.specs.LeaseRows as rows;
+ghost use Rattle.list_rows.specs.ListRows.{proposer_of};
 ghost use Rattle.flease.specs.Shown.{expiry_of, shown_news, news_by};
 ghost use Rattle.flease.specs.States.{shown};
 ghost use Rattle.flease.specs.Moves.{IsSettled, asks_at, ballot_asked, renews_at, ballot_renewed, turn_of, is_free, is_overdue, NothingOverdue};
@@ -93,6 +94,14 @@ impl FileLease {
         let (state, expiry) = expired(self.take(), now);
         self.state = state;
         expiry
+    }
+
+    /// Lets the lease go: a round or a renewal ends, and there is no lease. The greatest count known goes on.
+    pub fn let_go(&mut self)
+        ensures { self.new ≡ rows.free (proposer_of self.old) }
+    {
+        let free = let_go(self.take());
+        self.state = State::Free(free);
     }
 
     /// Takes an answer to the running round at the clock `now`, if it is one.
@@ -193,6 +202,18 @@ fn same_state(state: &State) -> State
         State::Asking(round) => State::Asking(round.same()),
         State::Writing(round) => State::Writing(round.same()),
         State::Held(held) => State::Held(held.same()),
+    }
+}
+
+/// Who asks for the lease again.
+fn let_go(state: State) -> Free
+    ensures { result ≡ proposer_of (shown state) }
+{
+    match state {
+        State::Free(free) => free,
+        State::Asking(round) => round.give_up(),
+        State::Writing(round) => round.give_up(),
+        State::Held(held) => held.give_up(),
     }
 }
 

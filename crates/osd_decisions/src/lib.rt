@@ -16,5 +16,5 @@ pub use choosing::{choose, difference};
 pub use counts::{carries, is_majority, statuses_counted};
 pub use judging::{WriteStanding, standing_of};
 pub use reading::{bytes_shown, present_body, reads_under};
-pub use refusal::{is_read, refusal_of, striped_refusal_of};
+pub use refusal::{capability_refused, is_read, refusal_of, striped_refusal_of};
 pub use updating::update_of;

@@ -15,7 +15,7 @@ pub fn is_read(op: &Op) -> bool
 }
 
 /// Why a capability is refused, if it is: its tag isn't the key's; it is over; it is for reading and more is asked.
-fn capability_refused(capability: &Capability, op: &Op, now: u64, sealed: bool) -> Option<Denial>
+pub fn capability_refused(capability: &Capability, op: &Op, now: u64, sealed: bool) -> Option<Denial>
     ensures { (site : Site) → site.now ≡ now → site.sealed capability.now ≡ sealed →
         result ≡ rows.capability_refused site capability.now op.now }
 {

@@ -27,7 +27,7 @@ use Rattle.osd_files.specs.Leads.{LeadView}
 use Rattle.osd_files.specs.Rows.{IsStep}
 use Rattle.osd_files.specs.Serves.{AsksFollow, asks_after, ground_at, served_in}
 use Rattle.osd_files.specs.Views.{FileView, site_at}
-use Rattle.osd_files.proofs.Noted.{heard_keeps}
+use Rattle.osd_files.proofs.Records.{heard_keeps}
 use Rattle.osd_files.proofs.Kept.{file_kept}
 use Rattle.osd_files.proofs.Waiting.{after_none, follow_joined, none_last}
 use Rattle.osd_files.proofs.Wakes.{settled_turn}

@@ -11,7 +11,7 @@ pub mod Held
 pub mod Lightly
 pub mod Counted
 pub mod Acked
-pub mod Noted
+pub mod Records
 pub mod Waiting
 pub mod Followed
 pub mod Stepped

@@ -32,23 +32,23 @@ use Rattle.osd_files.specs.Views.{FileView, site_at}
 use Rattle.osd_files.specs.Whole.{IsRowOn, IsSealedBy, IsWhole, IsWoken}
 use Rattle.osd_files.proofs.Rows.{behind_it}
 
-no_seal : Capability → Bool
+pub no_seal : Capability → Bool
 no_seal capability = true
 
-no_body : FileId → ℕ → Stamp → List ℕ
+pub no_body : FileId → ℕ → Stamp → List ℕ
 no_body file object version = []
 
 -- a message is sealed or not whatever other capabilities are
-sealed_so : (content : Payload) (sealed : Bool) → IsSealedBy (λ capability. sealed) content sealed
+pub sealed_so : (content : Payload) (sealed : Bool) → IsSealedBy (λ capability. sealed) content sealed
 sealed_so (payload.Ask number capability asked) sealed = refl
 sealed_so content sealed = tt
 
-asks_within : (from : NodeId) (content : Payload) → FitsPayload content → AskIs IsWithinLimits from content
+pub asks_within : (from : NodeId) (content : Payload) → FitsPayload content → AskIs IsWithinLimits from content
 asks_within from (payload.Ask number capability asked) fits = λ deadline. fits.2
 asks_within from content fits = tt
 
 -- another state of a file
-whole_as : (s : FileState) (v : FileView) → s ≡ v.state → IsSound s → AsksAre IsWithinLimits s.asks → IsWhole v
+pub whole_as : (s : FileState) (v : FileView) → s ≡ v.state → IsSound s → AsksAre IsWithinLimits s.asks → IsWhole v
 whole_as s v same sound asks =
     record { sound = subst IsSound same sound; asks = subst (λ (x : FileState). AsksAre IsWithinLimits x.asks) same asks }
 

@@ -164,6 +164,21 @@ impl Lead {
         self.listed = Some(Listed { location, primary });
     }
 
+    /// Stores another list of the file, and the primary's tenure ends, if there is one.
+    pub fn relist(&mut self, location: Location)
+        requires { FitsStripe location.stripe }
+        ensures { self.new ≡
+            record self.old { location = Some location; primary = rows.idle self.old.primary } }
+    {
+        match &mut self.listed {
+            Some(listed) => {
+                listed.primary.relist(location.stripe);
+                listed.location = location;
+            }
+            None => self.store(location),
+        }
+    }
+
     /// Ends the primary's tenure, if there is one.
     pub fn idle(&mut self)
         ensures { self.new ≡ record self.old { primary = rows.idle self.old.primary } }

@@ -12,7 +12,7 @@ use xt_messages::Reply;
 use xt_protocol::{Turned, quiet, sends};
 
 /// All asks get the answer that there is no lease: the issued one unless it was answered already, then those that wait.
-fn told_no_lease(file: &Parts) -> Result<Turned, OutOfMemory>
+pub fn told_no_lease(file: &Parts) -> Result<Turned, OutOfMemory>
     ensures { IfOk result (λ turned. (now : ℕ) →
         Gives rows.no_lease_for_all now (shown file.now) turned) }
 {
@@ -57,7 +57,7 @@ pub fn overdue(file: &Parts, now: u64) -> Result<Turned, OutOfMemory>
 }
 
 /// Lease lapses: the primary is idle, and no ask is left.
-fn end_lapsed(file: &mut Parts)
+pub fn end_lapsed(file: &mut Parts)
     ensures { (now : ℕ) → Becomes rows.lease_lapses now (shown file.old) (shown file.new) }
 {
     file.lead.idle();

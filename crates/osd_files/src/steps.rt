@@ -28,7 +28,7 @@ use xt_messages::{Capability, Kind, Op, Payload};
 use xt_protocol::Turned;
 
 /// An ask by the kind of its file. After an error a file whose list was stored is as it was.
-fn ask_comes<B: Bodies>(
+pub fn ask_comes<B: Bodies>(
     file: &mut Parts,
     bodies: &mut B,
     now: u64,
@@ -60,7 +60,7 @@ fn ask_comes<B: Bodies>(
 
 /// A message that concerns the file, when nothing is overdue. `sealed` says whether the tag of an ask's capability is the key's.
 /// After an error the file is as it was if the message is one that it takes in place.
-fn message_comes<B: Bodies>(
+pub fn message_comes<B: Bodies>(
     file: &mut Parts,
     bodies: &mut B,
     now: u64,

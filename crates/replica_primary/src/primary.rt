@@ -92,6 +92,19 @@ impl Primary {
         put(&mut self.state.tenure, None);
     }
 
+    /// Another list of the file, with objects of `stripe` bytes: the tenure ends, if there is one. What was learnt goes on.
+    pub fn relist(&mut self, stripe: u32)
+        requires { FitsStripe stripe }
+        ensures { self.new ≡
+            record {
+              place = record self.old.place { stripe = stripe };
+              state = rows.idle self.old.state;
+            } }
+    {
+        self.idle();
+        self.place.stripe = stripe;
+    }
+
     /// Begins a tenure in this turn, under an epoch above the own promise and all that were learnt.
     pub fn begin(
         &mut self,

@@ -1,5 +1,5 @@
 -- a head stays within its limits
-use Rattle.std.proofs.Common.{◌≡◌, ◌==◌, ◌&&◌, ◌<◌, ◌≤◌, true, false, nat_lt, nat_le, List, length, ◌⊎◌, inl, inr, ◌^◌, ◌-◌, eq-eqb, arith}
+use Rattle.std.proofs.Common.{◌≡◌, ◌==◌, ◌&&◌, ◌<◌, ◌≤◌, Bool, true, false, cond, refl, nat_lt, nat_le, List, length, ◌⊎◌, inl, inr, ◌^◌, ◌-◌, eq-eqb, arith}
 use Rattle.std.specs.List.{AllByRecursion}
 use Rattle.std.proofs.lemmas.Bool.{and_parts}
 use Rattle.std.proofs.lemmas.Bool.Decides.{nat_tests}
@@ -11,12 +11,54 @@ use Rattle.xt_messages.specs.declared.file.Update.{Update}
 use Rattle.xt_base.specs.declared.TheConstants.{OBJECTS, CLIENTS, COUNTS, NO_OBJECT}
 use Rattle.xt_messages.specs.Limits.{FitsStamp, FitsOpId, FitsMark, FitsHead, FitsVersion, FitsSession, FitsUpdate, IsObjectOrNone, is_at_most, rise}
 use Rattle.xt_protocol.specs.Stamps.{is_earlier}
-use Rattle.xt_protocol.specs.Heads.{head_after, versions_below}
+use Rattle.xt_protocol.specs.Heads.{head_after, head_installed, later_epoch, versions_below}
 use Rattle.xt_protocol.specs.ReplicaRows.{head_fits}
 use Rattle.object_versions.proofs.HeadLimits.{when, objects_of, below_all, version_all, session_all, below_still_rise, versions_still_rise, sessions_still_rise}
 
 pub earlier_at_most : (a b : Epoch) → is_earlier a b ≡ true → is_at_most a b ≡ true
 earlier_at_most a b is = grind (arith, nat_tests)
+
+passed_by : (a b : Epoch) → is_earlier b a ≡ true → is_at_most a b ≡ false
+passed_by a b is = grind (arith, nat_tests)
+
+not_passed_by : (a b : Epoch) → is_earlier b a ≡ false → is_at_most a b ≡ true
+not_passed_by a b is = grind (arith, nat_tests)
+
+at_most_along : (a b c : Epoch) → is_at_most a b ≡ true → is_at_most c b ≡ false → is_at_most a c ≡ true
+at_most_along a b c first second = grind (arith, nat_tests)
+
+-- which of two epochs is the later one
+pub later_first : (a b : Epoch) → is_earlier b a ≡ true → a ≡ later_epoch a b
+later_first a b is = at (is_at_most a b) refl
+  where
+    at : (t : Bool) → is_at_most a b ≡ t → a ≡ cond t b a
+    at true most = absurd (let not : is_at_most a b ≡ false = passed_by a b is in cc (most, not))
+    at false less = refl
+
+pub later_second : (a b : Epoch) → is_earlier b a ≡ false → b ≡ later_epoch a b
+later_second a b is = at (is_at_most a b) refl
+  where
+    at : (t : Bool) → is_at_most a b ≡ t → b ≡ cond t b a
+    at true most = refl
+    at false less = absurd (let so : is_at_most a b ≡ true = not_passed_by a b is in cc (less, so))
+
+-- the head with which a later list begins stays within its limits
+pub installed_fits : (own head : FileHead) → FitsHead own → FitsHead head → FitsHead (head_installed own head)
+installed_fits own head old new = at (is_at_most own.promised head.promised) refl
+  where
+    at : (t : Bool) → is_at_most own.promised head.promised ≡ t → FitsHead (record head { promised = cond t head.promised own.promised })
+    at true most =
+        record { promise = new.promise; place = new.place; operation = new.operation; after = new.after; objects = new.objects; clients = new.clients; kept = new.kept }
+    at false less =
+        record {
+          promise = old.promise;
+          place = new.place;
+          operation = new.operation;
+          after = new.after;
+          objects = new.objects;
+          clients = new.clients;
+          kept = at_most_along head.stamp.epoch head.promised own.promised new.kept less;
+        }
 
 -- what the test of a head after an update says
 record Room (head : FileHead) : Type 0 where

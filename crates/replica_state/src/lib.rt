@@ -9,6 +9,7 @@ mod answers;
 mod fetching;
 mod replica;
 
+pub use answers::stage_record;
 pub use fetching::fetched_from;
 pub use replica::Replica;
 pub use xt_protocol::Acted;

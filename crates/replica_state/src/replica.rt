@@ -1,6 +1,7 @@
-ghost use Rattle.std.specs.Prelude.{◌≡◌, IfOk, IfSome, OnOk, OnErr};
+ghost use Rattle.std.specs.Prelude.{◌≡◌, Some, IfOk, IfSome, OnOk, OnErr};
 ghost use Rattle.xt_messages.specs.Limits.{FitsEpoch, FitsHead, FitsUpdate};
 ghost use Rattle.xt_protocol.specs.Folds.{row_after};
+ghost use Rattle.xt_protocol.specs.Heads.{head_installed, later_epoch};
 ghost use Rattle.xt_protocol.specs.Forgetting.{row_without};
 ghost use Rattle.xt_protocol.specs.ReplicaRows.{gathered, staged, headed, updated};
 ghost use Rattle.replica_state.specs.Kept.{kept_row, IsNotable};
@@ -36,6 +37,18 @@ impl Model for Replica {
     ghost view = { λ r. record { file = r.file; head = r.head; held = r.held; location = None; closed = r.closed } };
 
     ghost invariant = { λ r. FitsHead r.head };
+}
+
+/// The later of two epochs.
+#[tactic(auto, using(crate::proofs::HeadFits::later_first, crate::proofs::HeadFits::later_second))]
+fn later_epoch(first: Epoch, second: Epoch) -> Epoch
+    ensures { result ≡ later_epoch first second }
+{
+    if is_earlier(second, first) {
+        first
+    } else {
+        second
+    }
 }
 
 impl Replica {
@@ -80,6 +93,31 @@ impl Replica {
         ensures { result.now ≡ self.now.held }
     {
         &self.held
+    }
+
+    /// The version of the list that it has closed last, if it has closed one.
+    pub fn closed(&self) -> Option<u32>
+        ensures { result ≡ self.now.closed }
+    {
+        self.closed
+    }
+
+    /// It has closed this version of its list.
+    pub fn close(&mut self, version: u32)
+        ensures { self.new ≡ record self.old { closed = Some version } }
+    {
+        self.closed = Some(version);
+    }
+
+    /// The head with which a later list begins takes the place of the own one; what was promised stays promised.
+    #[tactic(auto, using(crate::proofs::HeadFits::installed_fits))]
+    pub fn install(&mut self, head: FileHead)
+        requires { FitsHead head }
+        ensures { self.new ≡ record self.old { head = head_installed self.old.head head } }
+    {
+        let promised = later_epoch(self.head.promised, head.promised);
+        self.head = head;
+        self.head.promised = promised;
     }
 
     /// Gathered: an epoch that isn't earlier than the promised one is to be promised, and the head reported; else it is refused.

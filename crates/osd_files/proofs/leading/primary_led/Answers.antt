@@ -13,7 +13,7 @@ use Rattle.osd_files.specs.Leads.{LeadView, place_of}
 use Rattle.osd_files.specs.Views.{shown}
 use Rattle.osd_files.proofs.Followed.{led_row}
 use Rattle.osd_files.proofs.Lightly.{light_none, recorded}
-use Rattle.osd_files.proofs.Noted.{heard_notable}
+use Rattle.osd_files.proofs.Records.{heard_notable}
 use Rattle.osd_files.proofs.Rows.{on_err}
 use Rattle.osd_files.proofs.leading.primary_led.Goals as goal
 

@@ -1,0 +1,4 @@
+pub mod Asking
+pub mod Light
+pub mod Whole
+pub mod Stepping
