@@ -5,10 +5,11 @@ ghost use Rattle.xt_messages.specs.declared.meta.MetaReq.TheVariants as ask;
 ghost use Rattle.reply_cache.specs.Standings.{standing_of};
 ghost use Rattle.volume_rows.specs.Paths.{path_in};
 ghost use Rattle.volume_rows.specs.Rows.{Volumes};
-ghost use Rattle.volume_rows.specs.Requests.{Outcome, applied};
+ghost use Rattle.volume_rows.specs.Requests.{Outcome, applied, has_names};
 ghost use Rattle.volume_rows.specs.Grants.{sizes_in};
 ghost use Rattle.volume_rows.specs.declared.Picked.TheVariants.{TooFew};
 ghost use Rattle.volume_tree.specs.Calls.{Comes};
+ghost use Rattle.volume_tree.specs.Owning.{owned};
 ghost use Rattle.server_rows.specs.Requests as rows;
 ghost use Rattle.server_rows.specs.Laws.{IsChange, Settles, files_made};
 ghost use Rattle.server_rows.specs.Metadata.{empty_catalogue, after_record};
@@ -218,6 +219,22 @@ impl Catalogue {
             rows.grant_at self.now.volumes who want path.now) }
     {
         match self.tree.grant(who, path, want) {
+            Ok(grant) => Ok(Ok(grant)),
+            Err(TreeErr::Refused { why }) => Ok(Err(why)),
+            Err(TreeErr::OutOfMemory) => Err(AllocError),
+        }
+    }
+
+    /// What its owner is granted of the file at a path, whatever its mode.
+    pub fn owned(
+        &self,
+        who: Asker,
+        path: &Name,
+    ) -> Result<Result<Granting, MetaRefusal>, OutOfMemory>
+        ensures { IfOk result (λ granted. granted ≡
+            owned self.now.volumes who (has_names 1 (path_in path.now))) }
+    {
+        match self.tree.owned(who, path) {
             Ok(grant) => Ok(Ok(grant)),
             Err(TreeErr::Refused { why }) => Ok(Err(why)),
             Err(TreeErr::OutOfMemory) => Err(AllocError),

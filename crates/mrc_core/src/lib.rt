@@ -5,7 +5,7 @@
 //! answered last (`Catalogue`), so that a server that starts again goes on where it was. Running out of memory changes nothing.
 //!
 //! A catalogue's `plan` says how a request is handled and changes nothing; `change` and `set` do what is recorded and keep the answer,
-//! and `take` does so again from the record.
+//! and `take` does so again from the record. These are there for a server where lists change, too (`mrc_lists`).
 #![tactic(auto)]
 
 mod asking;
@@ -22,7 +22,13 @@ ghost use Rattle.xt_messages.specs.declared.event.Event.{Event};
 ghost use Rattle.xt_messages.specs.declared.record.Record.{Record};
 ghost use Rattle.mrc_core.specs.Picking.{CanHandle, CanHear, CanTake};
 
-pub use mrc::Mrc;
+pub use asking::{Asking, Site};
+pub use catalogue::Catalogue;
+pub use mrc::{Mrc, asks_dir};
+pub use picking::{marks_on, nodes_for, nodes_of, place_of};
+pub use plan::{Plan, plan_of_grant};
+pub use serving::{Prepared, reply_to};
+pub use settling::{Settled, Settling, TO_READ};
 
 /// A message that is within the limits of its fields can be handled, so can such an event, and such a record can be taken.
 pub fn what_fits_can_be_handled()

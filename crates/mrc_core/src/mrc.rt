@@ -63,7 +63,7 @@ impl Model for Mrc {
 }
 
 /// What asks the DIR for the OSDs, in the words of an OSD that asks it too (`osd_core` has its own).
-fn asks_dir() -> Msg
+pub fn asks_dir() -> Msg
     ensures { result ≡ asks_dir MRC_NODE }
 {
     let request = RegistryReq::List {

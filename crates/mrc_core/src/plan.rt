@@ -36,7 +36,7 @@ fn is_last_epoch(granted: &Result<Granting, MetaRefusal>) -> bool
 }
 
 /// The plan of a Grant, by what is granted.
-fn plan_of_grant(
+pub fn plan_of_grant(
     alloc: Global,
     site: &Site,
     want: u8,

@@ -19,7 +19,7 @@ use xt_messages::{Logged, Marks, MetaAnswer, MetaReq, Msg, Msgs, Payload, Record
 use xt_protocol::{Turned, message, quiet, sends_one};
 
 /// An answer to a client.
-fn reply_to(client: NodeId, number: u64, answer: MetaAnswer) -> Msg
+pub fn reply_to(client: NodeId, number: u64, answer: MetaAnswer) -> Msg
     ensures { result ≡ steps.reply_to client number answer }
 {
     message(MRC_NODE, client, Payload::MetaReply { number, answer })
@@ -64,10 +64,10 @@ fn one_in(room: Vec<Msg>, message: Msg) -> Msgs
 }
 
 /// What a recorded request needs before it is settled: its record, the marks that it has where it is done, and room for its answer.
-struct Prepared {
-    rec: OptionalBox<Record>,
-    marks: Marks,
-    room: Vec<Msg>,
+pub struct Prepared {
+    pub rec: OptionalBox<Record>,
+    pub marks: Marks,
+    pub room: Vec<Msg>,
 }
 
 // A derived drop is part of the code of each function that may drop a value. This one is proved once.
@@ -83,7 +83,7 @@ impl Drop for Prepared {
 
 impl Prepared {
     /// Of a request with these nodes and marks.
-    fn of(
+    pub fn of(
         alloc: Global,
         site: &Site,
         asking: &Asking,
@@ -103,7 +103,7 @@ impl Prepared {
     }
 
     /// What the request gives, once it is settled.
-    fn turned(self, alloc: Global, asking: &Asking, settled: &Settled) -> Turned
+    pub fn turned(self, alloc: Global, asking: &Asking, settled: &Settled) -> Turned
         requires empty { self.room.items ≡ [] }
         requires room { vec_len self.room < vec_capacity self.room }
         ensures { result ≡

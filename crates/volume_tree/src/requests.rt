@@ -6,6 +6,7 @@ ghost use Rattle.volume_rows.specs.Requests.{has_names, kind_of, directory_made,
 ghost use Rattle.volume_rows.specs.Grants.{granted_at, file_at, wanted, epoch_granted};
 ghost use Rattle.xt_messages.specs.declared.meta.MetaRefusal.TheVariants.{OtherVolume};
 ghost use Rattle.volume_tree.specs.Calls.{Comes, Grants, IsBadPath};
+ghost use Rattle.volume_tree.specs.Owning.{owned_at};
 
 use crate::TreeErr;
 use crate::table::Table;
@@ -419,6 +420,38 @@ pub fn grant_file(table: &Table, who: Asker, want: u8, names: &[&str]) -> Result
             },
             location: stored.location,
             epoch: epoch_granted(want, stored.epoch),
+            mark: stored.mark,
+        }),
+    }
+}
+
+/// What its owner is granted of a file, whatever its mode: to see what is in it.
+pub fn owned_file(table: &Table, who: Asker, names: &[&str]) -> Result<Granting, TreeErr>
+    requires { 0 < length names.now }
+    ensures { Grants result (owned_at table.now who (map (λ name. name.now) names.now)) }
+{
+    if let Some(why) = table.ancestors(who, names) {
+        return Err(TreeErr::Refused { why });
+    }
+    let Some(entry) = table.find(names) else {
+        return Err(TreeErr::Refused {
+            why: MetaRefusal::NotFound,
+        });
+    };
+    match entry.content {
+        Content::Directory => Err(TreeErr::Refused {
+            why: MetaRefusal::IsDir,
+        }),
+        Content::File { .. } if who.user != entry.owner => {
+            Err(TreeErr::Refused { why: NOT_OWNER })
+        }
+        Content::File { stored } => Ok(Granting {
+            file: FileId {
+                volume: volume_of(names),
+                number: stored.number,
+            },
+            location: stored.location,
+            epoch: stored.epoch,
             mark: stored.mark,
         }),
     }

@@ -4,11 +4,12 @@ ghost use Rattle.volume_rows.specs.Rows.{no_volumes};
 ghost use Rattle.volume_rows.specs.Requests.{has_names, on_path, on_paths, applied, directory_made, file_made, path_renamed, file_unlinked, directory_removed, entry_told, names_listed, mode_set};
 ghost use Rattle.volume_rows.specs.Grants.{granted, file_at, sizes_in, sizes_set};
 ghost use Rattle.volume_tree.specs.Calls.{Comes, Grants, HasNumber};
+ghost use Rattle.volume_tree.specs.Owning.{owned};
 
 use crate::TreeErr;
 use crate::requests::{
-    file_id, grant_file, list, make_directory, make_file, move_path, names_of, remove_directory,
-    set_mode, tell, unlink_file,
+    file_id, grant_file, list, make_directory, make_file, move_path, names_of, owned_file,
+    remove_directory, set_mode, tell, unlink_file,
 };
 use crate::table::Table;
 use std::alloc::Global;
@@ -180,6 +181,16 @@ impl Tree {
     {
         match names_of(self.alloc, path, 1) {
             Ok(names) => grant_file(&self.table, who, want, names.as_slice()),
+            Err(why) => Err(why),
+        }
+    }
+
+    /// What its owner is granted of the file at the text of a path, whatever its mode: to see what is in it.
+    pub fn owned(&self, who: Asker, path: &Name) -> Result<Granting, TreeErr>
+        ensures { Grants result (owned self.now who (has_names 1 (path_in path.now))) }
+    {
+        match names_of(self.alloc, path, 1) {
+            Ok(names) => owned_file(&self.table, who, names.as_slice()),
             Err(why) => Err(why),
         }
     }

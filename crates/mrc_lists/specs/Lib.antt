@@ -1,0 +1,4 @@
+pub mod Servers
+pub mod Asking
+pub mod Hearing
+pub mod Plans
