@@ -1,0 +1,9 @@
+pub mod Lists
+pub mod Rising
+pub mod Woken
+pub mod Kept
+pub mod Busy
+pub mod Steps
+pub mod Rows
+pub mod Events
+pub mod Keeping

@@ -1,0 +1,9 @@
+pub mod Servers
+pub mod Past
+pub mod More
+pub mod Frame
+pub mod Steps
+pub mod Ends
+pub mod Declares
+pub mod Starts
+pub mod Lines
