@@ -34,10 +34,10 @@ struct Case {
     node: &'static [&'static str],
     before: usize,
     places: [usize; 4],
-    parts: [&'static str; 3],
+    parts: &'static [&'static str],
     records: &'static str,
     sent: &'static [(&'static str, &'static str)],
-    ends: [End; 5],
+    ends: &'static [End],
 }
 
 /// The three files of an OSD are promised to node 2; a client makes three volumes; and it sets three addresses.
@@ -50,7 +50,7 @@ static CASES: [Case; 3] = [
         node: OSD,
         before: 1,
         places: [40, 82, 124, 166],
-        parts: [
+        parts: &[
             "01 00000002 0000000000000001 0000000000000001 00 01 00000032
              00000032 02 06 00000002 00000001 00000000000000000000000000000000 0000000000000001
              0000000000000001 00000002",
@@ -96,7 +96,7 @@ static CASES: [Case; 3] = [
                  00000000 0000000000000000 0000000000000000 0000000000000000 00000000 00000000",
             ),
         ],
-        ends: [
+        ends: &[
             End {
                 words: &["--turns", "5"],
                 link: &[],
@@ -143,7 +143,7 @@ static CASES: [Case; 3] = [
         node: MRC,
         before: 1,
         places: [40, 83, 126, 169],
-        parts: [
+        parts: &[
             "01 0000000a 0000000000000001 0000000000000001 00 01 00000025
              00000025 02 14 0000000a 00000385 0000000000000001 00000001 00000001 01 0002 2f76 01ed",
             "01 0000000a 0000000000000001 0000000000000002 00 01 00000025
@@ -180,7 +180,7 @@ static CASES: [Case; 3] = [
                  00000017 02 15 00000385 0000000a 0000000000000003 00",
             ),
         ],
-        ends: [
+        ends: &[
             End {
                 words: &["--turns", "5"],
                 link: &[],
@@ -227,7 +227,7 @@ static CASES: [Case; 3] = [
         node: DIR,
         before: 0,
         places: [40, 87, 134, 181],
-        parts: [
+        parts: &[
             "01 0000000a 0000000000000001 0000000000000001 00 01 00000029
              00000029 02 16 0000000a 00000384 0000000000000001 01 00000001 01 0003 613a31
              0000000000000000",
@@ -262,7 +262,7 @@ static CASES: [Case; 3] = [
                  0000001f 02 17 00000384 0000000a 0000000000000003 00 0000000000000001",
             ),
         ],
-        ends: [
+        ends: &[
             End {
                 words: &["--turns", "5"],
                 link: &[],
@@ -341,7 +341,7 @@ fn sent_with(case: &Case, answers: usize) -> &'static [(&'static str, &'static s
 fn what_waits_is_put_and_sent(rt: HostRuntime) {
     let one = hex(rt.alloc(), ONE).expect(&rt, OTHERWISE);
     for case in &CASES {
-        for end in &case.ends {
+        for end in case.ends {
             let outside = Outside {
                 disk: one.as_slice(),
                 readings: &[0, 20_000],
@@ -349,7 +349,7 @@ fn what_waits_is_put_and_sent(rt: HostRuntime) {
                 clock: end.clock,
                 ..NOTHING
             };
-            let given = given(&rt, rt.alloc(), &case.parts);
+            let given = given(&rt, rt.alloc(), case.parts);
             let left = ran(&rt, rt.alloc(), case.node, end.words, given, outside);
             assert_ended(&rt, &left, end.said, end.code);
             assert_sent(&rt, rt.alloc(), left.link.sent(), sent_with(case, end.kept));
@@ -398,7 +398,7 @@ fn a_call_of_a_batch_fails(rt: HostRuntime) {
                 device,
                 ..NOTHING
             };
-            let given = given(&rt, rt.alloc(), &case.parts);
+            let given = given(&rt, rt.alloc(), case.parts);
             let left = ran(
                 &rt,
                 rt.alloc(),
