@@ -98,6 +98,11 @@ def failover(objects, writes, folder):
     return with_it - without
 
 
+def times(large, small):
+    """How many times as much one is as the other; a difference of times can be below zero."""
+    return f"{large / small:.2f}" if small > 0 else "?"
+
+
 def main():
     unit = "instructions" if VALGRIND else "microseconds"
     if not VALGRIND:
@@ -115,9 +120,9 @@ def main():
         print(f"{objects:,} objects: each further write takes {further[objects]:,.0f} {unit}")
     small, large = OBJECTS
     print(
-        f"{large:,} objects beside {small:,}: {took[large, few] / took[small, few]:.2f} times as much with one write, "
-        f"{took[large, many] / took[small, many]:.2f} times with {many}, {further[large] / further[small]:.2f} times for each further write, "
-        f"to be about 1"
+        f"{large:,} objects beside {small:,}: {times(took[large, few], took[small, few])} times as much with one write, "
+        f"{times(took[large, many], took[small, many])} times with {many}, "
+        f"{times(further[large], further[small])} times for each further write, to be about 1"
     )
 
 

@@ -26,14 +26,18 @@ GOOD = {
 failures = []
 
 
-def run(words, folder):
+def run(words):
+    """A run in a folder of its own, with an empty file `s`."""
     env = {name: value for name, value in os.environ.items() if not name.startswith("XTFS_")}
-    return subprocess.run([PROGRAM, *words], stdin=subprocess.DEVNULL, capture_output=True, text=True, timeout=30, cwd=folder, env=env)
+    with tempfile.TemporaryDirectory() as folder:
+        with open(os.path.join(folder, "s"), "wb"):
+            pass
+        return subprocess.run([PROGRAM, *words], stdin=subprocess.DEVNULL, capture_output=True, text=True, timeout=30, cwd=folder, env=env)
 
 
-def told(words, folder):
+def told(words):
     """What the program says on standard error."""
-    return run(words, folder).stderr
+    return run(words).stderr
 
 
 def expect(what, page, program):
@@ -47,22 +51,21 @@ def section(text, heading):
     return [line.split()[0] for line in found[1].splitlines() if re.match(r" {2,6}\S", line)] if found else []
 
 
-def program_commands(folder):
-    return [name for name in section(told(["help"], folder), "Commands") if name != "help"]
+def program_commands():
+    return [name for name in section(told(["help"]), "Commands") if name != "help"]
 
 
 class Command:
     """A command as the program's help has it."""
 
-    def __init__(self, name, folder):
+    def __init__(self, name):
         self.name = name
-        text = told(["help", name], folder)
+        text = told(["help", name])
+        self.help = text
         usage = re.search(r"^Usage: (.*)$", text, re.M)[1].split()
-        self.positionals = [word[1:-1] for word in usage if re.fullmatch(r"<[a-z]+>", word)]
-        needed = [word[2:] for word in usage if word.startswith("--")]
-        # The value of a needed option is no positional.
-        self.positionals = [word for word in self.positionals if word not in needed]
-        self.needed = set(needed)
+        self.needed = {word[2:] for word in usage if word.startswith("--")}
+        # The value of a needed option has its name, and is no positional.
+        self.positionals = [word[1:-1] for word in usage if re.fullmatch(r"<[a-z]+>", word) and word[1:-1] not in self.needed]
         self.options = {word[2:].rstrip(",") for word in section(text, "Options") if word.startswith("--")} - {"help", "version"}
 
     def words(self, wrong, value):
@@ -114,10 +117,10 @@ def page_values(page, clients):
     return values
 
 
-def said_of(command, name, folder):
+def said_of(command, name):
     """What the program says that a value of this argument is."""
     wrong = "a" * 65 if name in ADDRESSES else "a" * 65_536 if name in PATHS else "?"
-    found = re.search(rf"isn't a value of '{name}': that is (.*)$", told(command.words(name, wrong), folder), re.M)
+    found = re.search(rf"isn't a value of '{name}': that is (.*)$", told(command.words(name, wrong)), re.M)
     return found[1] if found else "never refused"
 
 
@@ -144,42 +147,38 @@ def main():
     with open(os.path.join(TOP, "docs", "commands.md")) as file:
         page = file.read()
     absent = defaults()
-    with tempfile.TemporaryDirectory() as folder:
-        names = program_commands(folder)
-        on_page = page_commands(page)
-        expect("the commands", sorted(on_page), sorted(names))
-        clients = [name for name in names if name not in NO_CLIENTS]
-        values = page_values(page, clients)
-        checked = 0
-        for name in names:
-            command = Command(name, folder)
-            positionals, needed = on_page.get(name, ([], set()))
-            needed = needed | ({"dir"} if name in clients else set())
-            expect(f"the positionals of {name}", positionals, command.positionals)
-            expect(f"what {name} needs", sorted(needed), sorted(command.needed))
-            options = {argument for (of, argument), row in values.items() if of == name and row[0]}
-            expect(f"the options of {name}", sorted(options), sorted(command.options))
-            for argument in [*command.positionals, *sorted(command.options)]:
-                if (name, argument) not in values:
-                    failures.append(f"the page doesn't say what {argument} of {name} is")
-                    continue
-                is_option, value, without = values[name, argument]
-                checked += 1
-                if value.startswith("none: "):
-                    # A flag takes no value: with one more word the command line is refused for that word.
-                    expect(f"the flag {argument} of {name}", True, f"--{argument} <" not in told(["help", name], folder))
-                    continue
-                expect(f"{argument} of {name}", value, said_of(command, argument, folder))
-                if argument in command.needed:
-                    expect(f"{argument} of {name}, if it isn't given,", without, "it is needed")
-                elif without.isdigit():
-                    expect(f"{argument} of {name}, if it isn't given,", without, absent.get(argument))
-                elif is_option:
-                    expect(f"{argument} of {name}, which has a value if it isn't given,", False, argument in absent)
-        with open(os.path.join(folder, "s"), "wb"):
-            pass
-        limit = re.search(r"^limit (\d+)$", run(["check", "--store", "s"], folder).stdout, re.M)
-        expect("the limit of check", values["check", "limit"][2], limit[1] if limit else None)
+    names = program_commands()
+    on_page = page_commands(page)
+    expect("the commands", sorted(on_page), sorted(names))
+    clients = [name for name in names if name not in NO_CLIENTS]
+    values = page_values(page, clients)
+    checked = 0
+    for name in names:
+        command = Command(name)
+        positionals, needed = on_page.get(name, ([], set()))
+        needed = needed | ({"dir"} if name in clients else set())
+        expect(f"the positionals of {name}", positionals, command.positionals)
+        expect(f"what {name} needs", sorted(needed), sorted(command.needed))
+        options = {argument for (of, argument), row in values.items() if of == name and row[0]}
+        expect(f"the options of {name}", sorted(options), sorted(command.options))
+        for argument in [*command.positionals, *sorted(command.options)]:
+            if (name, argument) not in values:
+                failures.append(f"the page doesn't say what {argument} of {name} is")
+                continue
+            is_option, value, without = values[name, argument]
+            checked += 1
+            if value.startswith("none: "):
+                expect(f"whether {argument} of {name} has a value", False, f"--{argument} <" in command.help)
+                continue
+            expect(f"{argument} of {name}", value, said_of(command, argument))
+            if argument in command.needed:
+                expect(f"{argument} of {name}, if it isn't given,", without, "it is needed")
+            elif without.isdigit():
+                expect(f"{argument} of {name}, if it isn't given,", without, absent.get(argument))
+            elif is_option:
+                expect(f"{argument} of {name}, which has a value if it isn't given,", False, argument in absent)
+    limit = re.search(r"^limit (\d+)$", run(["check", "--store", "s"]).stdout, re.M)
+    expect("the limit of check", values["check", "limit"][2], limit[1] if limit else None)
     print("\n".join(failures + [f"{len(names)} commands, {checked} values: {len(failures)} differ from docs/commands.md"]))
     return 1 if failures or not checked else 0
 

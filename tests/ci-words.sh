@@ -187,7 +187,8 @@ def main():
         for words, told in REFUSED + HELP:
             ended = run(words, folder)
             said = ended.stderr.decode()
-            check(words, ended.returncode == 2 and ended.stdout == b"! usage\n" and all(word in said for word in told), ended)
+            good = ended.returncode == 2 and ended.stdout == b"! usage\n" and all(word in said for word in told) and not os.listdir(folder)
+            check(words, good, ended)
 
         # Without --dir the words are refused; the variable sets it, and nobody answers there.
         ended = run(["stat", "/a", "--tries", "1", "--lease", "20", "--drift", "2"], folder, XTFS_DIR=f"127.0.0.1:{free_port()}")

@@ -1,7 +1,7 @@
 //! What helps a person with the words of a command line: how commands are called, what is wrong with words that were refused, which
-//! options may come from the environment, whose a store is, and which ones are opened. Nothing here is part of what the program promises for
+//! options may come from the environment, whose a store is, and which one is checked. Nothing here is part of what the program promises for
 //! its words: the texts go to standard error, options from the environment are added before `run` sees the words, a node on another's store
-//! isn't started, and neither is work on a store that can't be opened.
+//! isn't started, and neither is the check of a store that can't be opened.
 #![tactic(auto)]
 
 mod faults;

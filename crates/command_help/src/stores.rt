@@ -1,4 +1,4 @@
-//! The owner of a store, which a small file beside it names; and the stores of stopped nodes that are opened.
+//! The owner of a store, which a small file beside it names; and the store that is checked.
 
 use crate::texts_of;
 use clap::ArgMatches;
@@ -52,23 +52,16 @@ fn owner_in(
     }
 }
 
-/// Whether this command works on the stores of nodes that have stopped.
-fn is_on_stopped(name: &str) -> bool {
-    name == "check" || name == "scrub" || name == "sweep"
-}
-
-/// The options that name the stores of nodes that have stopped.
-const STOPPED_STORES: [&str; 2] = ["mrc-store", "store"];
-
-/// The paths of the stores that a command on stopped nodes opens.
-fn opened_in(alloc: Global, found: &ArgMatches<'_>) -> Result<Vec<String>, OutOfMemory> {
-    let mut paths = Vec::new(alloc);
-    for option in &STOPPED_STORES {
-        if let Some(path) = found.get_str(option) {
-            paths.push(String::from_str(alloc, path)?)?;
-        }
+/// The path of the store that the command checks; none for a command that checks none.
+fn checked_in(
+    alloc: Global,
+    name: &str,
+    found: &ArgMatches<'_>,
+) -> Result<Option<String>, OutOfMemory> {
+    match found.get_str("store") {
+        Some(store) if name == "check" => Ok(Some(String::from_str(alloc, store)?)),
+        _ => Ok(None),
     }
-    Ok(paths)
 }
 
 /// What these words do to a store.
@@ -76,16 +69,16 @@ fn opened_in(alloc: Global, found: &ArgMatches<'_>) -> Result<Vec<String>, OutOf
 pub enum StoreUse {
     /// They start a node, whose store has this file beside it.
     Owned(StoreOwner),
-    /// They open the stores of nodes that have stopped, at these paths.
-    Opened(Vec<String>),
+    /// They check the store at this path.
+    Checked(String),
     /// Neither.
     Unused,
 }
 
 /// What a command does to a store.
 fn use_in(alloc: Global, name: &str, found: &ArgMatches<'_>) -> Result<StoreUse, OutOfMemory> {
-    if is_on_stopped(name) {
-        return Ok(StoreUse::Opened(opened_in(alloc, found)?));
+    if let Some(path) = checked_in(alloc, name, found)? {
+        return Ok(StoreUse::Checked(path));
     }
     match owner_in(alloc, name, found)? {
         Some(owner) => Ok(StoreUse::Owned(owner)),

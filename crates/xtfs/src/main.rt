@@ -1,9 +1,9 @@
-//! `xtfs`: replays a schedule, judges a trace, serves a node, checks, scrubs or sweeps a store, carries out a client command, or does all
-//! that a cluster is, as the words of the command line ask.
+//! `xtfs`: replays a schedule, judges a trace, serves a node, checks a store, carries out a client command, or does all that a cluster is,
+//! as the words of the command line ask.
 //!
 //! `main` makes the adapters over the standard streams, a socket, a file, the clock of this machine and its processes, and ends with the
 //! status of `xtfs_run::run`, which does all that the program does. A node isn't started on a store that is another node's by the file
-//! beside it, a store that isn't there isn't made in order to be worked on, and words with an address that isn't one are refused.
+//! beside it, a store that isn't there isn't made in order to be checked, and words with an address that isn't one are refused.
 //!
 //! Standard error is for people: which word is wrong and why, and how its command is called; which call of the system failed; when a node is
 //! ready and when it ends; and what the status means and what helps. No status and no byte of the standard output depends on it.
@@ -109,14 +109,6 @@ fn read_command_line(rt: &HostRuntime) -> io::Result<CommandLine> {
     Ok(CommandLine { program, words })
 }
 
-/// The job that the words ask for, if they ask for one, and if there is memory to read them twice.
-fn job_of(alloc: Global, words: &Words) -> Option<Job> {
-    match asked_job(alloc, words) {
-        Ok(job) => job,
-        Err(_) => None,
-    }
-}
-
 /// What is told of the node that these words start, once it is ready; none for another job, or without memory.
 fn ready_of(alloc: Global, job: &Option<Job>) -> Option<String> {
     match job {
@@ -177,13 +169,19 @@ fn main(rt: HostRuntime) -> ExitCode {
         // Memory ran out before anything was done.
         return ExitCode::from(Status::OutOfMemory.code());
     };
-    let job = job_of(alloc, &words);
+    let Ok(job) = asked_job(alloc, &words) else {
+        return ExitCode::from(Status::OutOfMemory.code());
+    };
     let progress = Progress::new(&rt, is_shown(&rt, &job));
     let Ok(mut source) = StdinSource::new(alloc, Counted::new(&progress, rt.reader())) else {
         return ExitCode::from(Status::OutOfMemory.code());
     };
     let refused = is_refused(&rt, &job);
-    if !refused && let Ok(Some(status)) = ended_early(&rt, &words) {
+    // Words that ask for nothing make no file beside a store.
+    if job.is_some()
+        && !refused
+        && let Ok(Some(status)) = ended_early(&rt, &words)
+    {
         return ExitCode::from(status);
     }
     // Refused words ask for nothing.

@@ -9,7 +9,7 @@ use xt_base::Words;
 /// The status of a node that is started on another node's store: that of one on a file that is no store.
 const ANOTHERS: u8 = 13;
 
-/// The status of work on a store that can't be opened: that of a disk that has failed.
+/// The status of the check of a store that can't be opened: that of a disk that has failed.
 const UNOPENED: u8 = 5;
 
 /// Whether the file beside a store says that it is another node's. A store without one gets one.
@@ -48,22 +48,12 @@ fn is_unopened(rt: &HostRuntime, path: &str) -> io::Result<bool> {
     }
 }
 
-/// Whether one of these paths has no file that can be read.
-fn are_unopened(rt: &HostRuntime, paths: &[String]) -> io::Result<bool> {
-    for path in paths {
-        if is_unopened(rt, path.as_str())? {
-            return Ok(true);
-        }
-    }
-    Ok(false)
-}
-
-/// The status with which these words end before anything is done: those of a node on another node's store, or of work on a store that
+/// The status with which these words end before anything is done: those of a node on another node's store, or of the check of a store that
 /// can't be opened.
 pub fn ended_early(rt: &HostRuntime, words: &Words) -> io::Result<Option<u8>> {
     let (ends, status) = match store_use(rt.alloc(), words)? {
         StoreUse::Owned(owner) => (is_anothers(rt, &owner)?, ANOTHERS),
-        StoreUse::Opened(paths) => (are_unopened(rt, paths.as_slice())?, UNOPENED),
+        StoreUse::Checked(path) => (is_unopened(rt, path.as_str())?, UNOPENED),
         StoreUse::Unused => (false, 0),
     };
     Ok(if ends { Some(status) } else { None })
