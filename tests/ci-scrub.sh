@@ -47,6 +47,10 @@ def is_scrubbed(store, new, good, damaged):
 # ---- stores that another model wrote
 
 
+# The other model puts digests one after the other, up to the one that has no room; here all are put at once, or none.
+AS_IT_WAS = ["full-journal"]
+
+
 def kept_stores(folder):
     with tarfile.open(STORES) as stores:
         stores.extractall(folder)
@@ -55,8 +59,9 @@ def kept_stores(folder):
         read = lambda file: open(os.path.join(folder, name, file), "rb").read()
         store = os.path.join(folder, name, "before")
         words = [store if word == "STORE" else word for word in read("words").decode().split("\n") if word]
+        was = read("before") if os.path.exists(store) else b""
         ended = run(words)
-        good = ended.stdout == read("out") and ended.returncode == int(read("status")) and read("before") == read("after")
+        good = ended.stdout == read("out") and ended.returncode == int(read("status")) and read("before") == (was if name in AS_IT_WAS else read("after"))
         check(name, good, ended)
     return len(names)
 
@@ -94,12 +99,14 @@ def ends_well(words, directory):
 
 
 def changed_byte(store, number):
-    """Changes the first byte of an object's body with dd."""
+    """Changes the first byte of an object's present body with dd."""
     body = bytes(place % 251 for place in range(number * OBJECT, min(SIZE, (number + 1) * OBJECT)))
     journal = open(store, "rb").read()
-    if journal.count(body) != 1:
-        sys.exit(f"object {number} is in the store {journal.count(body)} times")
-    words = ["dd", f"of={store}", "bs=1", f"seek={journal.index(body)}", "conv=notrunc", "status=none"]
+    # A put that was made again wrote it again, and the last one counts.
+    place = journal.rfind(body)
+    if place < 0:
+        sys.exit(f"object {number} isn't in the store")
+    words = ["dd", f"of={store}", "bs=1", f"seek={place}", "conv=notrunc", "status=none"]
     subprocess.run(words, input=bytes([body[0] ^ 1]), check=True)
 
 
@@ -126,7 +133,7 @@ def site(folder):
         # An OSD that was slower than the majority of the three may lack the last writes: a stopped one that has all of them is looked for.
         for node in OSDS:
             stopped(children.pop(node))
-        whole = [node for node in OSDS if open(store(node), "rb").read().count(bytes(place % 251 for place in range(2 * OBJECT, SIZE))) == 1]
+        whole = [node for node in OSDS if open(store(node), "rb").read().count(bytes(place % 251 for place in range(2 * OBJECT, SIZE))) > 0]
         if not whole:
             sys.exit("no OSD has the whole file")
         node = whole[0]
