@@ -1,7 +1,7 @@
 //! Nodes to which datagrams come faster than their disk syncs: their records are put at once, and their answers are sent after that.
 
 use crate::OTHERWISE;
-use crate::bytes::{front, hex, joined};
+use crate::bytes::hex;
 use crate::datagrams::{assert_sent, push};
 use crate::journals::{Loading, ONE, load, sound_disk};
 use crate::runs::{DIR, MRC, NOTHING, OSD, Outside, assert_ended, ran};
@@ -12,32 +12,12 @@ use std::process::Abort;
 use std::test::*;
 use xt_base::{Octets, Seq};
 
-/// A journal of two starts, up to the gate after them.
-const TWO_STARTS: &str = "
-    58544653 4a524e4c 00000001 a5 00000009 01 0000000000000001 a5 00000009 01 0000000000000002";
-
-/// How a run ends: the words at the end of the command line, the calls of the link and of the clock that fail, what the node writes, its
-/// status, and how many of the three records are kept then. As many answers are sent.
-struct End {
-    words: &'static [&'static str],
-    link: &'static [u64],
-    clock: &'static [u64],
-    said: &'static str,
-    code: u8,
-    kept: usize,
-}
-
-/// A node; three datagrams, each of which makes it put a record and send an answer; the three records as they are in the journal after two
-/// starts, and where the journal's last gate is with the first none, one, two and three of them; what is sent, and how much of it
-/// before the answers; and how runs end.
+/// A node; three datagrams, each of which makes it put a record and send an answer; what is sent, and how much of it before the answers.
 struct Case {
     node: &'static [&'static str],
     before: usize,
-    places: [usize; 4],
     parts: &'static [&'static str],
-    records: &'static str,
     sent: &'static [(&'static str, &'static str)],
-    ends: &'static [End],
 }
 
 /// The three files of an OSD are promised to node 2; a client makes three volumes; and it sets three addresses.
@@ -49,7 +29,6 @@ static CASES: [Case; 3] = [
     Case {
         node: OSD,
         before: 1,
-        places: [40, 82, 124, 166],
         parts: &[
             "01 00000002 0000000000000001 0000000000000001 00 01 00000032
              00000032 02 06 00000002 00000001 00000000000000000000000000000000 0000000000000001
@@ -61,10 +40,6 @@ static CASES: [Case; 3] = [
              00000032 02 06 00000002 00000001 00000000000000000000000000000000 0000000000000003
              0000000000000001 00000002",
         ],
-        records: "a5 00000025 02 00000000000000000000000000000000 0000000000000001 0000000000000001 00000002
-                  a5 00000025 02 00000000000000000000000000000000 0000000000000002 0000000000000001 00000002
-                  a5 00000025 02 00000000000000000000000000000000 0000000000000003 0000000000000001 00000002
-                  00",
         sent: &[
             (
                 "a:1",
@@ -96,53 +71,10 @@ static CASES: [Case; 3] = [
                  00000000 0000000000000000 0000000000000000 0000000000000000 00000000 00000000",
             ),
         ],
-        ends: &[
-            End {
-                words: &["--turns", "5"],
-                link: &[],
-                clock: &[],
-                said: "ready 1\n! turns 5\n",
-                code: 11,
-                kept: 3,
-            },
-            End {
-                words: &[],
-                link: &[5],
-                clock: &[],
-                said: "ready 1\n! link 1\n",
-                code: 6,
-                kept: 1,
-            },
-            End {
-                words: &[],
-                link: &[],
-                clock: &[5],
-                said: "ready 1\n! clock 1\n",
-                code: 9,
-                kept: 1,
-            },
-            End {
-                words: &["--limit", "124"],
-                link: &[],
-                clock: &[],
-                said: "ready 1\n! full 125 124\n",
-                code: 16,
-                kept: 1,
-            },
-            End {
-                words: &["--limit", "82"],
-                link: &[],
-                clock: &[],
-                said: "ready 1\n! full 83 82\n",
-                code: 16,
-                kept: 0,
-            },
-        ],
     },
     Case {
         node: MRC,
         before: 1,
-        places: [40, 83, 126, 169],
         parts: &[
             "01 0000000a 0000000000000001 0000000000000001 00 01 00000025
              00000025 02 14 0000000a 00000385 0000000000000001 00000001 00000001 01 0002 2f76 01ed",
@@ -151,13 +83,6 @@ static CASES: [Case; 3] = [
             "01 0000000a 0000000000000001 0000000000000003 00 01 00000025
              00000025 02 14 0000000a 00000385 0000000000000003 00000001 00000001 01 0002 2f78 01ed",
         ],
-        records: "a5 00000026 07 0000000a 0000000000000001 0000000000004e20 00 14 00000001 00000001
-                  01 0002 2f76 01ed
-                  a5 00000026 07 0000000a 0000000000000002 0000000000004e20 00 14 00000001 00000001
-                  01 0002 2f77 01ed
-                  a5 00000026 07 0000000a 0000000000000003 0000000000004e20 00 14 00000001 00000001
-                  01 0002 2f78 01ed
-                  00",
         sent: &[
             (
                 "a:1",
@@ -180,53 +105,10 @@ static CASES: [Case; 3] = [
                  00000017 02 15 00000385 0000000a 0000000000000003 00",
             ),
         ],
-        ends: &[
-            End {
-                words: &["--turns", "5"],
-                link: &[],
-                clock: &[],
-                said: "ready 901\n! turns 5\n",
-                code: 11,
-                kept: 3,
-            },
-            End {
-                words: &[],
-                link: &[5],
-                clock: &[],
-                said: "ready 901\n! link 1\n",
-                code: 6,
-                kept: 1,
-            },
-            End {
-                words: &[],
-                link: &[],
-                clock: &[5],
-                said: "ready 901\n! clock 1\n",
-                code: 9,
-                kept: 1,
-            },
-            End {
-                words: &["--limit", "126"],
-                link: &[],
-                clock: &[],
-                said: "ready 901\n! full 127 126\n",
-                code: 16,
-                kept: 1,
-            },
-            End {
-                words: &["--limit", "83"],
-                link: &[],
-                clock: &[],
-                said: "ready 901\n! full 84 83\n",
-                code: 16,
-                kept: 0,
-            },
-        ],
     },
     Case {
         node: DIR,
         before: 0,
-        places: [40, 87, 134, 181],
         parts: &[
             "01 0000000a 0000000000000001 0000000000000001 00 01 00000029
              00000029 02 16 0000000a 00000384 0000000000000001 01 00000001 01 0003 613a31
@@ -238,13 +120,6 @@ static CASES: [Case; 3] = [
              00000029 02 16 0000000a 00000384 0000000000000003 01 00000003 01 0003 613a31
              0000000000000000",
         ],
-        records: "a5 0000002a 07 0000000a 0000000000000001 0000000000000000 00 16 01 00000001 01
-                  0003 613a31 0000000000000000
-                  a5 0000002a 07 0000000a 0000000000000002 0000000000000000 00 16 01 00000002 01
-                  0003 613a31 0000000000000000
-                  a5 0000002a 07 0000000a 0000000000000003 0000000000000000 00 16 01 00000003 01
-                  0003 613a31 0000000000000000
-                  00",
         sent: &[
             (
                 "b:1",
@@ -261,48 +136,6 @@ static CASES: [Case; 3] = [
                 "01 00000384 0000000000000002 0000000000000003 00 01 0000001f
                  0000001f 02 17 00000384 0000000a 0000000000000003 00 0000000000000001",
             ),
-        ],
-        ends: &[
-            End {
-                words: &["--turns", "5"],
-                link: &[],
-                clock: &[],
-                said: "ready 900\n! turns 5\n",
-                code: 11,
-                kept: 3,
-            },
-            End {
-                words: &[],
-                link: &[4],
-                clock: &[],
-                said: "ready 900\n! link 1\n",
-                code: 6,
-                kept: 1,
-            },
-            End {
-                words: &[],
-                link: &[],
-                clock: &[5],
-                said: "ready 900\n! clock 1\n",
-                code: 9,
-                kept: 1,
-            },
-            End {
-                words: &["--limit", "134"],
-                link: &[],
-                clock: &[],
-                said: "ready 900\n! full 135 134\n",
-                code: 16,
-                kept: 1,
-            },
-            End {
-                words: &["--limit", "87"],
-                link: &[],
-                clock: &[],
-                said: "ready 900\n! full 88 87\n",
-                code: 16,
-                kept: 0,
-            },
         ],
     },
 ];
@@ -321,43 +154,10 @@ pub fn given(rt: &impl Abort, alloc: Global, parts: &[&'static str]) -> Datagram
     given
 }
 
-/// A journal of two starts and so many of a node's records.
-fn journal(rt: &impl Abort, alloc: Global, case: &Case, kept: usize) -> Octets {
-    let starts = hex(alloc, TWO_STARTS).expect(rt, OTHERWISE);
-    let records = hex(alloc, case.records).expect(rt, OTHERWISE);
-    let all = joined(alloc, starts.as_slice(), records.as_slice()).expect(rt, OTHERWISE);
-    let place = case.places.get(kept).copied().expect(rt, OTHERWISE);
-    joined(alloc, front(all.as_slice(), place), &[0]).expect(rt, OTHERWISE)
-}
-
 /// What is sent with so many answers.
 fn sent_with(case: &Case, answers: usize) -> &'static [(&'static str, &'static str)] {
     let count = case.before.saturating_add(answers).min(case.sent.len());
     &case.sent[..count]
-}
-
-/// Whatever ends a node, all that was handled before is put and sent then; of the event that ends it nothing is.
-#[test]
-fn what_waits_is_put_and_sent(rt: HostRuntime) {
-    let one = hex(rt.alloc(), ONE).expect(&rt, OTHERWISE);
-    for case in &CASES {
-        for end in case.ends {
-            let outside = Outside {
-                disk: one.as_slice(),
-                readings: &[0, 20_000],
-                link: end.link,
-                clock: end.clock,
-                ..NOTHING
-            };
-            let given = given(&rt, rt.alloc(), case.parts);
-            let left = ran(&rt, rt.alloc(), case.node, end.words, given, outside);
-            assert_ended(&rt, &left, end.said, end.code);
-            assert_sent(&rt, rt.alloc(), left.link.sent(), sent_with(case, end.kept));
-            let image = left.disk.image().expect(&rt, OTHERWISE);
-            let expected = journal(&rt, rt.alloc(), case, end.kept);
-            assert!(rt; image.as_slice() == expected.as_slice(), "{}", end.said);
-        }
-    }
 }
 
 /// What may be left at each place that isn't synced: a gate that is closed, another one, and one that is open.
